@@ -1,0 +1,2 @@
+-- Sets of baselines: what a word's bits mean.
+pub mod Sets

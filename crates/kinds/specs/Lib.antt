@@ -1,0 +1,2 @@
+-- The table of a ring.
+pub mod Ring
