@@ -96,7 +96,7 @@ impl BaselineSet {
     pub fn lowest(self) -> Option<usize>
         ensures { λ r. ⌜ BySome r (self .bits ≡ 0) (Lowest (self .bits)) ⌝ }
     {
-        if self.bits == 0 {
+        if self.is_empty() {
             return None;
         }
         Some(self.bits.trailing_zeros() as usize)
@@ -106,7 +106,7 @@ impl BaselineSet {
     pub fn highest(self) -> Option<usize>
         ensures { λ r. ⌜ BySome r (self .bits ≡ 0) (Highest (self .bits)) ⌝ }
     {
-        if self.bits == 0 {
+        if self.is_empty() {
             return None;
         }
         Some(63 - self.bits.leading_zeros() as usize)

@@ -20,7 +20,7 @@ in-side n bytes i j =
     (cases-bool (ltb n 65 && eqb (length bytes) (n * n)))
 
 -- by the count that the square tells
-pub in-square : (n : ℕ) (bytes : List ℕ) (i j m : ℕ) → m ≡ side n bytes → i < m → j < m → i * m + j < length bytes
-in-square n bytes i j m count =
-    let P : ℕ → Type 0 = λ x. i < x → j < x → i * x + j < length bytes in
-    subst P (sym count) (in-side n bytes i j)
+pub in-square : (n : ℕ) (bytes : List ℕ) (i j m : ℕ) → m ≡ side n bytes → i < side n bytes → j < side n bytes → i * m + j < length bytes
+in-square n bytes i j m count k l =
+    let P : ℕ → Type 0 = λ x. i * x + j < length bytes in
+    subst P (sym count) (in-side n bytes i j k l)

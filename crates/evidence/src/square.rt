@@ -1,8 +1,9 @@
 //! A square of bytes, row by row, read as evidence.
 
+ghost use Prim.Native.Nat.{_<_};
 ghost use denote.Ref.{now};
 ghost use mathlib.Core.Path.{_≡_};
-ghost use Rattle.evidence.specs.Square.{side, squared, squared-sound};
+ghost use Rattle.evidence.specs.Square.{marked, side, squared, squared-sound};
 use super::evidence::Evidence;
 
 /// A count n, and n rows of n bytes. Two different baselines share when the byte at their row and column and its mirror
@@ -31,6 +32,17 @@ pub impl<'a> Evidence for Square<'a> as SquareEvidence {
         if i >= n || j >= n || i == j {
             return false;
         }
-        self.bytes[i * n + j] == 1 && self.bytes[j * n + i] == 1
+        self.is_marked(i, j) && self.is_marked(j, i)
+    }
+}
+
+impl Square<'_> {
+    // Whether the byte at a row and a column is 1.
+    fn is_marked(&self, i: usize, j: usize) -> bool
+        requires row { ⌜ i < side (now self .n) (now (now self .bytes)) ⌝ }
+        requires column { ⌜ j < side (now self .n) (now (now self .bytes)) ⌝ }
+        ensures { λ r. ⌜ r ≡ marked (now (self .entry) .n) (now (now (self .entry) .bytes)) i j ⌝ }
+    {
+        self.bytes[i * self.count() + j] == 1
     }
 }

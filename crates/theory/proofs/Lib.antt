@@ -21,6 +21,7 @@ pub mod SameStart
 pub mod Prefer
 pub mod Passing
 pub mod Cluster
+pub mod Names
 -- The numbers of the imagers: stars by their lowest baselines, and the places that give each baseline its ends.
 pub mod Lowest
 pub mod Places
@@ -37,3 +38,12 @@ pub mod Order
 pub mod Alike
 pub mod Matched
 pub mod Unique
+-- The answer of the search to a whole table.
+pub mod Settling
+pub mod Leads
+pub mod Doubts
+pub mod Solves
+pub mod LowestThat
+pub mod Searched
+pub mod SameAnswer
+pub mod Rigs

@@ -12,3 +12,6 @@ pub mod Stars
 pub mod Walks
 pub mod Search
 pub mod Imagers
+pub mod Answer
+-- rigs worked through:
+pub mod Rigs

@@ -9,7 +9,8 @@ use Rattle.std.specs.declared.option.Option.{Option}
 use Rattle.std.specs.declared.option.Option.the-variants.{Some, None}
 use Rattle.bitset.specs.Sets.{has, minus, single, lowest}
 use Rattle.evidence.specs.Table.{Table}
-use Rattle.theory.specs.Stars.{row, far}
+use Rattle.theory.specs.Clusters.{Reach}
+use Rattle.theory.specs.Stars.{row, far, star, Stars}
 use Rattle.theory.specs.Walks.{walk, cluster}
 
 -- The test passes at each number below n.
@@ -83,3 +84,20 @@ passing-below t r (suc k) =
 -- The starts that pass, in the order of preference: none crossed first, then the highest cross.
 unfoldable pub passing : Table → ℕ → List (Option ℕ)
 passing t r = cond (passes t r None) (None ∷ passing-below t r 64) (passing-below t r 64)
+
+-- ---- A settled cluster
+
+-- Whether a list has nothing in it.
+abbrev pub is-nil : {A : Type 0} → List A → Bool
+is-nil [] = true
+is-nil (x ∷ xs) = false
+
+-- The cluster of r is settled: the near stars are a system of stars that begins with the preferred start,
+-- and the cluster is doubtful when another start passes too.
+pub record Settled (t : Table) (r : ℕ) (near : ℕ → ℕ) (doubtful : Bool) : Type 0 where
+  pub start : Option ℕ
+  pub others : List (Option ℕ)
+  pub preferred : passing t r ≡ start ∷ others
+  pub stars : Stars t (Reach t r) (star t near)
+  pub begins : near r ≡ first t r start
+  pub doubt : doubtful ≡ not (is-nil others)

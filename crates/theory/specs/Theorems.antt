@@ -2,11 +2,14 @@
 use Prim.Native.Nat.{ℕ, _<_}
 use mathlib.Core.Path.{_≡_}
 use mathlib.Core.Logic.{_↔_}
+use Rattle.std.specs.declared.option.Option.the-variants.{Some, None}
 use Rattle.evidence.specs.Table.{Table, Sound}
 use Rattle.theory.specs.Layout.{Ends, Layout}
 use Rattle.theory.specs.Groups.{Chosen}
 use Rattle.theory.specs.Clusters.{HasLayout}
 use Rattle.theory.specs.Numbers.{Numbered}
+use Rattle.theory.specs.Placed.{Solved, Clash}
+use Rattle.theory.specs.Answer.{unsettled, found}
 
 -- The answer of a table is fixed: two chosen layouts that are numbered have as many imagers and tell the same ends.
 abbrev pub Answer-fixed : Type 0
@@ -18,3 +21,10 @@ Answer-fixed = (t : Table) (e f : ℕ → Ends) (m n : ℕ)
 abbrev pub Layout-by-clusters : Type 0
 Layout-by-clusters =
     (t : Table) → Sound t → ((e : ℕ → Ends) × Layout t e) ↔ ((i : ℕ) → i < t .count → HasLayout t i)
+
+-- The search is right: where no cluster is left unsettled what it finds is the answer of the table,
+-- and else the lowest unsettled baseline is the one whose cluster has no layout.
+abbrev pub Search-right : Type 0
+Search-right = (t : Table) → Sound t
+    → (unsettled t ≡ None → Solved t (found t .imagers) (found t .ends) (found t .doubtful))
+    × ((i : ℕ) → unsettled t ≡ Some i → Clash t i)
