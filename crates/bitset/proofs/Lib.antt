@@ -1,1 +1,2 @@
+-- The laws of sets, by their members.
 pub mod Members

@@ -1,9 +1,8 @@
--- The laws of the sets of specs/Sets.antt. Assumes nothing.
-use mathlib.Core.Path.{_≡_, refl, sym, ap, ap₂, subst, _∙_}
+-- The laws of the sets of specs/Sets.antt, told by their members.
+use mathlib.Core.Path.{_≡_, refl, sym, ap, _∙_}
 use mathlib.Core.Bool.{Bool, true, false, cond, not, _&&_, _||_}
-use mathlib.Core.Logic.{_⊎_, inl, inr, ⊎-elim}
+use mathlib.Core.Logic.{⊎-elim}
 use Prim.Native.Nat.{ℕ, zero, suc, _+_, _-_, _*_, _/_, _%_, _^_, _≤_, _<_, min, max, differ}
-use native.Mathlib.Nat.{pow-suc, mod-lt}
 use native.Mathlib.Numerals.{one-add}
 use native.Mathlib.Omega.{arith}
 use lib.Arith.{digits-div, digits-mod}
@@ -11,15 +10,16 @@ use lib.Bits.{bitAnd, bitOr, bitXor, and-step, or-step, xor-step, and-lt}
 use lib.Count.{trailingZeros, leadingZeros, leading-top, under}
 use lib.Dec.{eqb, ltb}
 use Rattle.std.proofs.shelf.Bits.{pow-pos, pow-below, and-mask, and-le-l, xor-lt, shr-shr}
-use Rattle.std.proofs.shelf.Tests.{both-ways, cases-lt, lt-ltb, le-ltb}
+use Rattle.std.proofs.shelf.Tests.{both-ways, cases-lt, lt-ltb, le-ltb, eq-eqb}
 use Rattle.std.proofs.shelf.Ways.{tells}
-use Rattle.bitset.specs.Sets.{has, minus, single, put, drop, lowest, set-of, Lowest, Highest}
+use Rattle.bitset.specs.Sets.{has, minus, put, drop, lowest, set-of, Lowest, Highest}
 
--- the low bit and the rest of a number that is put together from them
+-- a number that is put together from a low bit and a rest has that low bit
 pub has-low : (q r : ℕ) → r < 2 → has (q * 2 + r) 0 ≡ eqb r 1
 unfolding has
 has-low q r h = ap (λ x. eqb x 1) (digits-mod q h)
 
+-- and above it the members of the rest, one higher
 pub has-high : (q r i : ℕ) → r < 2 → has (q * 2 + r) (suc i) ≡ has q i
 unfolding has
 has-high q r i h = ap (λ x. has x i) (digits-div q h)
@@ -53,15 +53,19 @@ bits op f g step bit a b zero =
 bits op f g step bit a b (suc i) =
     ap (λ x. has x (suc i)) (step a b) ∙ has-high _ _ i (bit _ _ (lt2 a) (lt2 b) .0) ∙ bits op f g step bit (a / 2) (b / 2) i
 
+-- what is in both of two sets
 pub has-and : (a b i : ℕ) → has (bitAnd a b) i ≡ (has a i && has b i)
 has-and = bits bitAnd min (λ x y. x && y) and-step and-bit
 
+-- what is in one of two sets or in both
 pub has-or : (a b i : ℕ) → has (bitOr a b) i ≡ (has a i || has b i)
 has-or = bits bitOr max (λ x y. x || y) or-step or-bit
 
+-- what is in just one of two sets
 pub has-xor : (a b i : ℕ) → has (bitXor a b) i ≡ cond (has b i) (not (has a i)) (has a i)
 has-xor = bits bitXor differ (λ x y. cond y (not x) x) xor-step xor-bit
 
+-- what is in the first of two sets and not in the second
 pub has-minus : (a b i : ℕ) → has (minus a b) i ≡ (has a i && not (has b i))
 unfolding minus
 has-minus a b i = has-xor a (bitAnd a b) i ∙ ap (λ x. cond x (not (has a i)) (has a i)) (has-and a b i) ∙ bool (has a i) (has b i)
@@ -71,11 +75,13 @@ has-minus a b i = has-xor a (bitAnd a b) i ∙ ap (λ x. cond x (not (has a i)) 
     bool true false = refl
     bool false y = refl
 
+-- 0 has no member
 pub has-none : (i : ℕ) → has 0 i ≡ false
 unfolding has
 has-none zero = refl
 has-none (suc i) = has-none i
 
+-- the set of i alone has i and nothing else
 pub has-single : (i j : ℕ) → has (2 ^ i) j ≡ eqb i j
 unfolding has
 has-single zero zero = refl
@@ -84,6 +90,10 @@ has-single (suc i) zero = let e : 2 ^ suc i % 2 ≡ 0 = omega arith in ap (λ x.
 has-single (suc i) (suc j) =
     let e : 2 ^ suc i / 2 ≡ 2 ^ i = omega arith in
     ap (λ x. has x j) e ∙ has-single i j ∙ grind (arith, tells)
+
+-- so i is in it
+pub single-has : (i : ℕ) → has (2 ^ i) i ≡ true
+single-has i = has-single i i ∙ eq-eqb i i refl
 
 -- two sets with the same members are equal
 pub same-set : (k a b : ℕ) → a < 2 ^ k → b < 2 ^ k → ((i : ℕ) → i < k → has a i ≡ has b i) → a ≡ b
@@ -102,7 +112,7 @@ cond-bit : (b : Bool) → eqb (cond b 1 0) 1 ≡ b
 cond-bit true = refl
 cond-bit false = refl
 
--- the set that a test picks
+-- the set that a test picks has what is below n and passes
 pub has-set-of : (p : ℕ → Bool) (n i : ℕ) → has (set-of p n) i ≡ (ltb i n && p i)
 unfolding set-of
 has-set-of p zero i = has-none i ∙ grind (arith, tells)
@@ -110,11 +120,13 @@ has-set-of p (suc n) zero = has-low _ _ (cond-lt (p 0)) ∙ cond-bit (p 0) ∙ g
 has-set-of p (suc n) (suc i) =
     has-high _ _ i (cond-lt (p 0)) ∙ has-set-of (λ j. p (suc j)) n i ∙ ap (λ x. x && p (suc i)) (grind (arith, tells))
 
+-- and nothing else, so it is below 2 ^ n
 pub set-of-lt : (p : ℕ → Bool) (n : ℕ) → set-of p n < 2 ^ n
 unfolding set-of
 set-of-lt p zero = omega arith
 set-of-lt p (suc n) = omega (arith, set-of-lt (λ i. p (suc i)) n, cond-lt (p 0))
 
+-- the number of zeros at the low end of a set that is not empty is a member
 pub lowest-has : (k m : ℕ) → 0 < m → m < 2 ^ k → (trailingZeros k m < k) × (has m (trailingZeros k m) ≡ true)
 unfolding has trailingZeros
 lowest-has zero m h l = absurd (omega arith)
@@ -125,6 +137,7 @@ lowest-has (suc k) m h l = go (lowest-has k (m / 2)) (m % 2) refl
     go r zero e = let s = r (omega arith) (omega arith) in (omega (arith, s .0), s .1)
     go r (suc d) e = (omega arith, grind (arith, tells))
 
+-- and nothing lower is one
 pub lowest-least : (k m j : ℕ) → j < trailingZeros k m → has m j ≡ false
 unfolding has trailingZeros
 lowest-least zero m j h = absurd (omega arith)
@@ -146,10 +159,11 @@ unfolding has
 has-shift m zero = let e : m / 2 ^ 0 ≡ m = omega arith in ap (λ x. eqb x 1) (sym (and-mask m 1) ∙ ap (λ x. bitAnd x 1) (sym e))
 has-shift m (suc i) = has-shift (m / 2) i ∙ ap (λ x. eqb (bitAnd x 1) 1) (shr-shr m 1 i ∙ ap (λ x. m / 2 ^ x) (one-add i))
 
--- the complement, as `!b` computes it at k bits
+-- the low bit and the rest of the complement
 not-digits : (k b : ℕ) → b < 2 ^ suc k → 2 ^ suc k - 1 - b ≡ (2 ^ k - 1 - b / 2) * 2 + (1 - b % 2)
 not-digits k b h = omega (arith, pow-pos k)
 
+-- the complement, as `!b` computes it at k bits, has what the set has not
 pub has-not : (k b i : ℕ) → b < 2 ^ k → i < k → has (2 ^ k - 1 - b) i ≡ not (has b i)
 unfolding has
 has-not zero b i h l = absurd (omega arith)
@@ -162,17 +176,23 @@ has-not (suc k) b (suc i) h l =
 pub empty-set : (k m : ℕ) → m < 2 ^ k → ((i : ℕ) → i < k → has m i ≡ false) → m ≡ 0
 empty-set k m h e = same-set k m 0 h (omega (arith, pow-pos k)) (λ i l. e i l ∙ sym (has-none i))
 
+-- a set with a member is not 0
+pub not-empty : (m i : ℕ) → has m i ≡ true → m ≡ 0 → ⊥
+not-empty m i h z = both-ways _ (ap (λ x. has x i) z ∙ has-none i) h
+
 -- a member of a set below 2 ^ k is below k
 pub has-lt : (k m i : ℕ) → m < 2 ^ k → has m i ≡ true → i < k
 unfolding has
-has-lt zero m i h e = let z : m ≡ 0 = omega arith in absurd (both-ways (has m i) (ap (λ x. has x i) z ∙ has-none i) e)
+has-lt zero m i h e = absurd (not-empty m i e (omega arith))
 has-lt (suc k) m zero h e = omega arith
 has-lt (suc k) m (suc i) h e = omega (arith, has-lt k (m / 2) i (omega arith) e)
 
+-- a set below 2 ^ k stays below it when members are taken away
 pub minus-lt : (k a b : ℕ) → a < 2 ^ k → minus a b < 2 ^ k
 unfolding minus
 minus-lt k a b h = xor-lt k a (bitAnd a b) h (omega (arith, and-le-l a b))
 
+-- the set of a number below k alone is below 2 ^ k
 pub single-lt : (k i : ℕ) → i < k → 2 ^ i < 2 ^ k
 single-lt k i h = pow-below i k h
 
@@ -182,17 +202,14 @@ minus-not a b h k =
     same-set 64 _ _ (and-lt 64 a (2 ^ 64 - 1 - b) h (omega arith)) (minus-lt 64 a b h)
     (λ i l. has-and a (2 ^ 64 - 1 - b) i ∙ ap (λ x. has a i && x) (has-not 64 b i k l) ∙ sym (has-minus a b i))
 
--- the lowest member of a set that is not empty is below 64
-pub lowest-lt : (m : ℕ) → (m ≡ 0 → ⊥) → m < 2 ^ 64 → lowest m < 64
-lowest-lt m ne h = lowest-has 64 m (omega arith) h .0
-
-not-member : (b : Bool) → (b ≡ true → ⊥) → b ≡ false
-not-member true f = absurd (f refl)
-not-member false f = refl
+-- a test that cannot pass fails
+pub unless : (b : Bool) → (b ≡ true → ⊥) → b ≡ false
+unless true f = absurd (f refl)
+unless false f = refl
 
 -- a number from 64 on is no member
 pub has-past : (m i : ℕ) → m < 2 ^ 64 → 64 ≤ i → has m i ≡ false
-has-past m i l h = not-member (has m i) (λ e. omega (arith, has-lt 64 m i l e))
+has-past m i l h = unless (has m i) (λ e. omega (arith, has-lt 64 m i l e))
 
 -- the lowest member of a set that is not empty
 pub lowest-is : (m : ℕ) → (m ≡ 0 → ⊥) → m < 2 ^ 64 → Lowest m (lowest m)
@@ -207,7 +224,7 @@ has-top zero m h l = let e : m % 2 ≡ 1 = omega arith in ap (λ x. eqb x 1) e
 has-top (suc j) m h l = has-top j (m / 2) (omega arith) (omega arith)
 
 has-above : (j m k : ℕ) → m < 2 ^ suc j → j < k → has m k ≡ false
-has-above j m k l h = not-member (has m k) (λ e. omega (arith, has-lt (suc j) m k l e))
+has-above j m k l h = unless (has m k) (λ e. omega (arith, has-lt (suc j) m k l e))
 
 -- the highest member of a set that is not empty
 pub highest-is : (m : ℕ) → (m ≡ 0 → ⊥) → m < 2 ^ 64 → Highest m (63 - leadingZeros 64 m)

@@ -1,16 +1,17 @@
 -- Entries with exactly one number in common, and the line graph of a proper drawing.
 use mathlib.Core.Path.{_≡_, refl, sym, ap, _∙_}
-use mathlib.Core.Bool.{Bool, true, false, _&&_, _||_, not}
+use mathlib.Core.Bool.{true, false, _||_, not}
 use mathlib.Core.List.{List}
-use mathlib.Core.Logic.{_⊎_, inl, inr, ⊎-elim, _↔_, _≢_}
+use mathlib.Core.Logic.{inl, inr, ⊎-elim, _↔_}
 use Prim.Native.Nat.{ℕ, _<_}
 use native.Mathlib.Omega.{arith}
-use lib.Dec.{eqb, ltb}
+use lib.Dec.{eqb}
 use Rattle.std.proofs.shelf.Ways.{tells}
 use Rattle.std.proofs.shelf.Tests.{cases-order, and-parts, and-from, or-cases, eqb-true, eqb-false, ne-eqb, lt-ltb, not-true, cases-bool}
 use Rattle.evidence.specs.Drawing.{Entry, entries, entry, some-common, same-two, one-common, Exactly-one, drawn, New, Proper}
 use Rattle.evidence.specs.LineGraph.{On, Touch, LineGraph}
 
+-- entries hold the same two numbers in either order of the entries
 same-two-comm : (d e : Entry) → same-two d e ≡ same-two e d
 same-two-comm d e = grind (arith, tells)
 
@@ -27,6 +28,7 @@ proper-from bytes new = record {
       (cases-order i j);
 }
 
+-- each entry of a proper drawing is new
 pub new-from : (bytes : List ℕ) → Proper bytes → (i : ℕ) → i < entries bytes → New bytes i
 new-from bytes proper i l = record {
   different = proper .different i l;
@@ -96,6 +98,7 @@ one-tells d e = (exact, tested)
         and-from _ _ (touch-some d e (x .0, x .1, x .2))
         (ap not (⊎-elim (λ h. absurd (not-two x h)) (λ h. h) (cases-bool (same-two d e))))
 
+-- the table of a proper drawing is the line graph of its entries
 pub line-graph : (bytes : List ℕ) → Proper bytes → LineGraph (entries bytes) (entry bytes) (drawn bytes)
 line-graph bytes proper = record {
   nodes = refl;

@@ -1,6 +1,6 @@
 -- How the number of sharing pairs changes with one pair, and with one baseline.
 use mathlib.Core.Path.{_≡_, refl, sym, ap, _∙_}
-use mathlib.Core.Bool.{Bool, true, false, _&&_, _||_, cond}
+use mathlib.Core.Bool.{Bool, true, false, cond}
 use mathlib.Core.Logic.{⊎-elim}
 use Prim.Native.Nat.{ℕ, zero, suc, _+_, _-_, _≤_, _<_}
 use native.Mathlib.Omega.{arith}
@@ -45,6 +45,7 @@ sum-more (suc m) n f = rw suc-add (omega (arith, sum-more m n f))
 
 -- ---- sharing pairs
 
+-- what a pair counts
 abbrev pub one-if : Bool → ℕ
 one-if b = cond b 1 0
 

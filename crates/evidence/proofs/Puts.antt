@@ -1,15 +1,17 @@
 -- A sound table stays sound when one pair is given a state.
-use mathlib.Core.Path.{_≡_, refl, sym, ap, _∙_}
-use mathlib.Core.Bool.{Bool, true, false, _&&_, _||_, cond}
+use mathlib.Core.Path.{_≡_, sym, ap, _∙_}
+use mathlib.Core.Bool.{Bool, false, cond}
 use Prim.Native.Nat.{ℕ, _≤_, _<_}
 use native.Mathlib.Omega.{arith}
 use Rattle.std.proofs.shelf.Ways.{tells}
 use Rattle.evidence.specs.Table.{Table, Sound}
 use Rattle.evidence.specs.Changes.{is-pair}
 
+-- the order of the second two does not matter
 pair-comm : (i j a b : ℕ) → is-pair i j a b ≡ is-pair i j b a
 pair-comm i j a b = grind (arith, tells)
 
+-- one pair of different baselines below the count may be given any state
 pub put-sound : (t u : Table) (i j : ℕ) (on : Bool) → Sound t → i < t .count → j < t .count → (i ≡ j → ⊥) → u .count ≡ t .count
     → ((a b : ℕ) → u .shares a b ≡ cond (is-pair i j a b) on (t .shares a b)) → Sound u
 put-sound t u i j on s hi hj ne same put = record {

@@ -3,7 +3,7 @@ use mathlib.Core.Path.{_≡_, ap}
 use mathlib.Core.Bool.{Bool, true, false, _&&_, _||_, not}
 use mathlib.Core.Logic.{_⊎_, inl, inr}
 use Prim.Native.Nat.{ℕ, _≤_, _<_}
-use lib.Dec.{eqb, ltb}
+use lib.Dec.{ltb}
 use Rattle.std.specs.declared.option.Option.the-variants.{Some, None}
 use Rattle.std.proofs.shelf.Tests.{lt-ltb, le-ltb, eq-eqb, ne-eqb, and-right, or-left, or-right}
 use Rattle.evidence.specs.declared.refusal.Refusal.the-variants.{PastCount, SameBaseline, ManyPairs}
@@ -31,11 +31,12 @@ module _ (t : Table) (most i j : ℕ) (on : Bool) where
       pub set-many : on ≡ true → t .shares i j ≡ false → most ≤ pairs t → first-no (set-questions t most i j on) ≡ Some ManyPairs
       set-many is off full = let q = ne-eqb i j ne in let f = le-ltb (pairs t) most full in rw (within, q, is, off, f)
 
-      -- they differ, and the pair has room or needs none
+      -- the pair has room or needs none
       roomy : (on ≡ false) ⊎ ((t .shares i j ≡ true) ⊎ (pairs t < most)) → (not on || (t .shares i j || ltb (pairs t) most)) ≡ true
       roomy (inl off) = or-left _ _ (ap not off)
       roomy (inr (inl has)) = or-right _ _ (or-left _ _ has)
       roomy (inr (inr room)) = or-right (not on) _ (or-right (t .shares i j) _ (lt-ltb (pairs t) most room))
 
+      -- they differ, and there is room: no question is answered no
       pub set-room : (on ≡ false) ⊎ ((t .shares i j ≡ true) ⊎ (pairs t < most)) → first-no (set-questions t most i j on) ≡ None
       set-room h = let q = ne-eqb i j ne in rw (within, q, roomy h)

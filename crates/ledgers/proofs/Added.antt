@@ -1,31 +1,30 @@
 -- One pair more on the list.
-use mathlib.Core.Path.{_≡_, refl, sym, ap, _∙_}
-use mathlib.Core.Bool.{Bool, true, false, _&&_, _||_, not, cond}
-use mathlib.Core.List.{List}
-use mathlib.Core.Logic.{_⊎_, inl, inr, ⊎-elim}
-use Prim.Native.Nat.{ℕ, zero, suc, _+_, _-_, _≤_, _<_}
+use mathlib.Core.Path.{_≡_, refl, ap, _∙_}
+use mathlib.Core.Bool.{Bool, true, false, _||_, cond}
+use mathlib.Core.Logic.{⊎-elim}
+use Prim.Native.Nat.{ℕ, _+_, _<_}
 use native.Mathlib.Omega.{arith}
 use native.Mathlib.Numerals.{add-one}
-use lib.Dec.{eqb, ltb}
-use lib.ListN.{length, getD, set, length-set}
+use lib.ListN.{length, set}
 use Rattle.std.proofs.shelf.Ways.{tells}
 use Rattle.std.proofs.shelf.Lists.{getD-set-same, getD-set-other}
-use Rattle.std.proofs.shelf.Tests.{cases-eq, cases-lt, cases-bool, or-from, or-left, or-right, or-cases, both-ways}
-use Rattle.evidence.specs.Table.{Table, Sound}
-use Rattle.evidence.specs.Pairs.{pairs}
+use Rattle.std.proofs.shelf.Tests.{cases-eq}
 use Rattle.evidence.specs.Changes.{is-pair}
-use Rattle.ledgers.specs.Listing.{hit, listed, listing}
+use Rattle.ledgers.specs.Listing.{listed}
 use Rattle.ledgers.proofs.Listed.{Entries, one, two, hit-same, listed-below}
 use Rattle.ledgers.proofs.Kept.{Once}
 
+-- a test or another, told by the one
 either : (p q : Bool) → (p || q) ≡ cond p true q
 either true q = refl
 either false q = refl
 
-flip : (i j a b : ℕ) → is-pair i j a b ≡ is-pair a b i j
-flip i j a b = grind (arith, tells)
+-- which of two pairs is asked for the other does not matter
+pair-flip : (i j a b : ℕ) → is-pair i j a b ≡ is-pair a b i j
+pair-flip i j a b = grind (arith, tells)
 
 module _ (ps : Entries) (n i j : ℕ) (long : length ps ≡ 512) (less : n < 512) where
+  -- the entries with the pair i, j put after the first n
   abbrev pub longer : Entries
   longer = set ps n (i, j)
 
@@ -34,7 +33,7 @@ module _ (ps : Entries) (n i j : ℕ) (long : length ps ≡ 512) (less : n < 512
   added-put a b =
       let h = hit-same ps n (i, j) a b (omega arith) in
       let r = listed-below ps n n (i, j) a b (omega arith) in
-      let f = flip i j a b in
+      let f = pair-flip i j a b in
       rw add-one (rw (h, r, f) (either (is-pair a b i j) (listed ps n a b)))
 
   -- it was not listed before, so none stands twice

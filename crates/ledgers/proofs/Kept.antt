@@ -1,21 +1,14 @@
 -- What a list of pairs keeps from call to call.
-use mathlib.Core.Path.{_≡_, refl, sym, ap, _∙_}
-use mathlib.Core.Bool.{Bool, true, false, _&&_, _||_, not, cond}
-use mathlib.Core.List.{List}
-use mathlib.Core.Logic.{_⊎_, inl, inr, ⊎-elim}
-use Prim.Native.Nat.{ℕ, zero, suc, _+_, _-_, _≤_, _<_}
+use mathlib.Core.Path.{_≡_, refl, sym, _∙_}
+use mathlib.Core.Bool.{Bool, false, cond}
+use Prim.Native.Nat.{ℕ, _+_, _≤_, _<_}
 use native.Mathlib.Omega.{arith}
-use native.Mathlib.Numerals.{add-one}
-use lib.Dec.{eqb, ltb}
-use lib.ListN.{length, getD, set, length-set}
-use Rattle.std.proofs.shelf.Ways.{tells}
-use Rattle.std.proofs.shelf.Lists.{getD-set-same, getD-set-other}
-use Rattle.std.proofs.shelf.Tests.{cases-eq, cases-lt, cases-bool, or-from, or-left, or-right, or-cases, both-ways}
-use Rattle.evidence.specs.Table.{Table, Sound}
+use lib.ListN.{length}
+use Rattle.evidence.specs.Table.{Sound}
 use Rattle.evidence.specs.Pairs.{pairs}
 use Rattle.evidence.specs.Changes.{is-pair}
 use Rattle.ledgers.specs.declared.pair_list.PairList.{PairList}
-use Rattle.ledgers.specs.Listing.{hit, listed, listing}
+use Rattle.ledgers.specs.Listing.{listed, listing}
 use Rattle.evidence.proofs.PairCounts.{one-if, pairs-none, pairs-grow, pairs-put}
 use Rattle.evidence.proofs.Puts.{put-sound}
 use Rattle.ledgers.proofs.Listed.{Entries, one, two}
@@ -33,6 +26,7 @@ Kept ps n count =
     × (((i j : ℕ) → count ≤ i → listed ps n i j ≡ false)
     × ((n ≡ pairs (listing count ps n)) × Unit {0})))))))
 
+-- it keeps it where its table is sound and the pairs are counted
 pub kept : (ps : Entries) (n count : ℕ) → length ps ≡ 512 → n ≤ 512 → Once ps n → Sound (listing count ps n) → n ≡ pairs (listing count ps n) → Kept ps n count
 kept ps n count long room once t counted =
     (long, (t .few, (room, (once, (t .alike, (t .apart, (t .within, (counted, tt))))))))
@@ -61,5 +55,6 @@ kept-put ps qs n m count i j on t counted hi hj ne long room once put moved =
     (put-sound (listing count ps n) (listing count qs m) i j on t hi hj ne refl put)
     (omega (arith, pairs-put (listing count ps n) (listing count qs m) on refl i j ne hi hj t put))
 
+-- the table of a list is sound
 pub sound-of : (x : PairList) → Sound (listing (x .count) (x .entries) (x .used))
 sound-of x = record { few = x .few; alike = x .alike; apart = x .apart; within = x .within }

@@ -1,28 +1,27 @@
 -- What is listed among the first entries.
 use mathlib.Core.Path.{_≡_, refl, sym, ap, _∙_}
-use mathlib.Core.Bool.{Bool, true, false, _&&_, _||_, not, cond}
+use mathlib.Core.Bool.{true, false}
 use mathlib.Core.List.{List}
-use mathlib.Core.Logic.{_⊎_, inl, inr, ⊎-elim}
-use Prim.Native.Nat.{ℕ, zero, suc, _+_, _-_, _≤_, _<_}
+use mathlib.Core.Logic.{⊎-elim}
+use Prim.Native.Nat.{ℕ, zero, suc, _+_, _≤_, _<_}
 use native.Mathlib.Omega.{arith}
 use native.Mathlib.Numerals.{add-one}
-use lib.Dec.{eqb, ltb}
-use lib.ListN.{length, getD, set, length-set}
-use Rattle.std.proofs.shelf.Ways.{tells}
+use lib.ListN.{length, getD, set}
 use Rattle.std.proofs.shelf.Lists.{getD-set-same, getD-set-other}
-use Rattle.std.proofs.shelf.Tests.{cases-eq, cases-lt, cases-bool, or-from, or-left, or-right, or-cases, both-ways}
-use Rattle.evidence.specs.Table.{Table, Sound}
-use Rattle.evidence.specs.Pairs.{pairs}
+use Rattle.std.proofs.shelf.Tests.{cases-eq, or-from, or-left, or-right, or-cases, both-ways}
+use Rattle.bitset.proofs.Members.{unless}
 use Rattle.evidence.specs.Changes.{is-pair}
-use Rattle.ledgers.specs.Listing.{hit, listed, listing}
+use Rattle.ledgers.specs.Listing.{hit, listed}
 
+-- the entries of a list: a pair of numbers at each place
 abbrev pub Entries : Type 0
 Entries = List (ℕ × ℕ)
 
--- the two numbers of the entry at place k
+-- the first number of the entry at place k
 abbrev pub one : Entries → ℕ → ℕ
 one ps k = getD ps k (0, 0) .0
 
+-- and the second
 abbrev pub two : Entries → ℕ → ℕ
 two ps k = getD ps k (0, 0) .1
 
@@ -53,18 +52,20 @@ listed-where ps (suc n) i j h =
 -- a pair that is not listed is at none
 pub listed-none : (ps : Entries) (n i j k : ℕ) → listed ps n i j ≡ false → k < n → hit ps i j k ≡ false
 listed-none ps n i j k h l =
-    ⊎-elim (λ e. absurd (both-ways (listed ps n i j) h (listed-at ps n i j k l e))) (λ e. e) (cases-bool (hit ps i j k))
+    unless (hit ps i j k) (λ e. both-ways (listed ps n i j) h (listed-at ps n i j k l e))
 
+-- a pair that is at no place is not listed
 pub none-listed : (ps : Entries) (n i j : ℕ) → ((k : ℕ) → k < n → hit ps i j k ≡ false) → listed ps n i j ≡ false
 none-listed ps zero i j h = refl
 none-listed ps (suc n) i j h = or-from (hit ps i j n) (listed ps n i j) (h n (omega arith)) (none-listed ps n i j (λ k l. h k (omega arith)))
 
 -- ---- one entry written
 
--- what is read at another place, and at this one
+-- the entries at other places are as they were
 pub hit-other : (ps : Entries) (k m : ℕ) (e : ℕ × ℕ) (a b : ℕ) → (m ≡ k → ⊥) → hit (set ps k e) a b m ≡ hit ps a b m
 hit-other ps k m e a b ne = ap (λ (p : ℕ × ℕ). is-pair a b (p .0) (p .1)) (getD-set-other ps k m e (0, 0) ne)
 
+-- the entry written is read at its place
 pub hit-same : (ps : Entries) (k : ℕ) (e : ℕ × ℕ) (a b : ℕ) → k < length ps → hit (set ps k e) a b k ≡ is-pair a b (e .0) (e .1)
 hit-same ps k e a b l = ap (λ (p : ℕ × ℕ). is-pair a b (p .0) (p .1)) (getD-set-same ps k e (0, 0) l)
 

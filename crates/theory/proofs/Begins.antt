@@ -1,6 +1,6 @@
 -- Which of the stars that begin at a baseline hold another: as many as its own stars that begin there.
 use mathlib.Core.Path.{_≡_, refl, sym, ap, ap₂, _∙_}
-use mathlib.Core.Bool.{Bool, true, false, cond, not, _&&_}
+use mathlib.Core.Bool.{Bool, true, false, cond, not, _&&_, and-comm}
 use mathlib.Core.Logic.{⊎-elim, _≢_}
 use mathlib.Core.List.{List, [], _∷_, _++_}
 use Prim.Native.Nat.{ℕ, _+_, _≤_, _<_}
@@ -11,6 +11,7 @@ use Rattle.std.proofs.shelf.Sums.{sumBy-append}
 use Rattle.std.proofs.shelf.Tests.{and-parts, and-from, both-ways, cases-bool, cases-eq, cond-both, eqb-true, leb-true, leb-false}
 use Rattle.std.proofs.shelf.Ways.{tells}
 use Rattle.bitset.specs.Sets.{has, lowest}
+use Rattle.bitset.proofs.Members.{unless}
 use Rattle.evidence.specs.Table.{Table, Sound}
 use Rattle.theory.specs.Stars.{Stars, star, far}
 use Rattle.theory.specs.Imagers.{second, begun-by, begins}
@@ -30,10 +31,6 @@ begins-ways P t near v f g =
 -- How many of two stars are picked and pass the test.
 abbrev pub picked : (ℕ → Bool) → (Bool → Bool) → (Bool → ℕ) → ℕ
 picked test pick star = one (pick true && test (star true)) + one (pick false && test (star false))
-
--- a test that is not passed fails
-unless : (b : Bool) → (b ≡ true → ⊥) → b ≡ false
-unless b f = ⊎-elim (λ h. absurd (f h)) (λ h. h) (cases-bool b)
 
 -- where one star is picked, it is tested alone
 picked-one : (test : ℕ → Bool) (pick : Bool → Bool) (star : Bool → ℕ) (q : Bool) → pick q ≡ true → pick (not q) ≡ false
@@ -75,11 +72,8 @@ holding-begun : (test : ℕ → Bool) (i w a : ℕ) → holding test i (begun-by
 unfolding begun-by
 holding-begun test i w a = if-so (eqb (lowest a) w)
   where
-    turned : (x y : Bool) → (x && y) ≡ (y && x)
-    turned x y = grind (arith, tells)
-
     if-so : (b : Bool) → holding test i (cond b (a ∷ []) []) ≡ one ((b && has a i) && test a)
-    if-so true = zero-add _ ∙ ap one (turned (test a) (has a i))
+    if-so true = zero-add _ ∙ ap one (and-comm (test a) (has a i))
     if-so false = refl
 
 -- how many of the stars that begin at w hold i: their order does not matter
@@ -142,7 +136,7 @@ module _ {t : Table} (sound : Sound t) {near : ℕ → ℕ} (good : Stars t (λ 
               (y .0, ap (λ a. eqb (lowest a) w) (sym (y .1)) ∙ x .0, y .1)
 
           at-w : (s : Bool) → mine s ≡ true → has (st i s) w ≡ true
-          at-w s h = ap (has (st i s)) (sym (eqb-true _ w h)) ∙ star-two i s li .lowest-in
+          at-w s h = ap (has (st i s)) (sym (eqb-true _ w h)) ∙ star-two i s li .low .member
 
           back : (s : Bool) → mine s ≡ true → (q : Bool) × (theirs q ≡ true)
           back s h =

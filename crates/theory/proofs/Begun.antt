@@ -16,11 +16,12 @@ use Rattle.theory.specs.Imagers.{begun-by, begins, imagers}
 use Rattle.theory.proofs.Places.{nth-star}
 use Rattle.theory.proofs.Begins.{begins-ways}
 
--- what holds of a star if it begins at v holds of the stars that begin at v
+-- what holds of a star if it begins at v holds of it where it is listed for v
 pub begun-all : (P : ℕ → Type 0) (v a : ℕ) → (lowest a ≡ v → P a) → All P (begun-by v a)
 unfolding begun-by
 begun-all P v a f = cond-both (eqb (lowest a) v) (a ∷ []) [] (All P) (λ e. (f (eqb-true _ v e), tt)) (λ e. tt)
 
+-- what holds of the stars of v that begin at v holds of all that are listed for v
 pub begins-all : (P : ℕ → Type 0) (t : Table) (near : ℕ → ℕ) (v : ℕ)
     → ((q : Bool) → lowest (star t near v q) ≡ v → P (star t near v q)) → All P (begins t near v)
 begins-all P t near v f =

@@ -13,6 +13,7 @@ use Rattle.theory.specs.Groups.{Three, Trio}
 use Rattle.theory.specs.Clusters.{Reach, here}
 use Rattle.theory.specs.Stars.{star, Stars, star-trio}
 use Rattle.theory.specs.Search.{first, attempt, passes, passing}
+use Rattle.theory.proofs.Reaches.{reach-lt}
 use Rattle.theory.proofs.Walks.{walk-steps, walk-cluster}
 use Rattle.theory.proofs.LayoutStars.{layout-stars, layout-trio}
 use Rattle.theory.proofs.Spread.{handed-lt, spread-start, spread-handed, spread-star}
@@ -45,10 +46,6 @@ differ-back : {t : Table} {r : ℕ} {one two : ℕ → Bool → ℕ} → Differ 
 differ-back d = record { three = d .three; in-cluster = d .in-cluster; apart = d .apart; differ = λ e. d .differ (sym e) }
 
 module _ (t : Table) (sound : Sound t) (r : ℕ) (below : r < t .count) where
-  -- r is below 64
-  root-lt : r < 64
-  root-lt = let few = sound .few in omega arith
-
   -- the near star of r is the first star
   pub attempt-start : (x : Option ℕ) → attempt t r x r ≡ first t r x
   attempt-start x = spread-start t r (first t r x) (walk-steps t sound r below)
@@ -56,13 +53,14 @@ module _ (t : Table) (sound : Sound t) (r : ℕ) (below : r < t .count) where
   -- the near stars of the cluster are sets of baselines
   pub attempt-lt : (x : Option ℕ) (v : ℕ) → Reach t r v → attempt t r x v < 2 ^ 64
   attempt-lt x v c =
-      handed-lt sound (first-lt t sound r x root-lt) v
+      handed-lt sound (first-lt t sound r x (reach-lt t sound below here)) v
       (spread-handed t r (first t r x) (walk-steps t sound r below) v (walk-cluster t sound r below v .1 c))
 
   -- what a start that passes gives is a system of stars
   pub pass-stars : (x : Option ℕ) → passes t r x ≡ true → Stars t (Reach t r) (star t (attempt t r x))
   pass-stars x p = verified-stars t sound r below (attempt t r x) (attempt-lt x) p
 
+  -- so is what each start of the list gives
   pub member-stars : (x : Option ℕ) → List·Memᴰ x (passing t r) → Stars t (Reach t r) (star t (attempt t r x))
   member-stars x m = pass-stars x (passing-start t sound r x m .1)
 
@@ -77,7 +75,7 @@ module _ (t : Table) (sound : Sound t) (r : ℕ) (below : r < t .count) where
       → (x : Option ℕ) × List·Memᴰ x (passing t r)
       × ((i j k : ℕ) → Reach t r i → star-trio st i j k ≡ star-trio (star t (attempt t r x)) i j k)
   stars-member good =
-      let s = start-of t sound r root-lt good in
+      let s = start-of t sound r (reach-lt t sound below here) good in
       let x = s .1 in
       let m = passing-member t sound r x (s .2) (stars-pass good (s .0) x (s .3)) in
       (x, m, same-trio sound good (member-stars x m) (s .0) true (s .3 ∙ sym (attempt-start x)))

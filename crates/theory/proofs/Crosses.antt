@@ -1,5 +1,4 @@
--- Two baselines that share have one star in common. Of what shares with both, at most one is not in that star:
--- the cross, which joins their other stars.
+-- Of the baselines that share with two that share, at most one is not in the star that these have in common: the cross.
 use mathlib.Core.Path.{_≡_, sym, ap, _∙_}
 use mathlib.Core.Logic.{_⊎_, inl, inr, ⊎-elim}
 use mathlib.Core.Bool.{Bool, true, false, not}
@@ -8,7 +7,8 @@ use Rattle.std.proofs.shelf.Tests.{cases-bool, cases-eq}
 use Rattle.bitset.specs.Sets.{has}
 use Rattle.evidence.specs.Table.{Table, Sound}
 use Rattle.theory.specs.Stars.{Stars}
-use Rattle.theory.proofs.StarFacts.{one-or-other, shares-apart, star-self, star-meet, star-rest, star-same, shares-star}
+use Rattle.theory.proofs.Ends.{one-or-other}
+use Rattle.theory.proofs.StarFacts.{shares-apart, star-self, star-meet, star-rest, star-same, shares-star}
 
 -- x shares with r and s and is not in the star a that they have in common
 abbrev pub Crosses : Table → ℕ → ℕ → ℕ → ℕ → Type 0

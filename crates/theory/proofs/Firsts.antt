@@ -7,9 +7,9 @@ use lib.Bits.{or-lt, and-lt}
 use lib.Dec.{eqb}
 use Rattle.std.specs.declared.option.Option.{Option}
 use Rattle.std.specs.declared.option.Option.the-variants.{Some, None}
-use Rattle.std.proofs.shelf.Tests.{and-parts, or-left, or-right, eq-eqb, ne-eqb, eqb-false, cond-true, cond-false, cond-both, both-ways}
+use Rattle.std.proofs.shelf.Tests.{and-parts, or-left, or-right, eq-eqb, ne-eqb, eqb-false, cond-true, cond-false, cond-both}
 use Rattle.bitset.specs.Sets.{has, single, lowest}
-use Rattle.bitset.proofs.Members.{has-and, has-or, has-minus, has-single, has-none, minus-lt, single-lt, lowest-lt, lowest-is}
+use Rattle.bitset.proofs.Members.{has-and, has-or, has-minus, has-single, not-empty, minus-lt, single-lt, lowest-is}
 use Rattle.evidence.specs.Table.{Table, Sound}
 use Rattle.theory.specs.Stars.{row}
 use Rattle.theory.specs.Search.{between, crossed, first}
@@ -27,6 +27,7 @@ module _ (t : Table) (sound : Sound t) (r : ℕ) where
   unfolding between
   between-has i = simp (has-and, row-has t sound)
 
+  -- both facts, of one that is between
   pub between-shares : (i : ℕ) → has (between t r) i ≡ true → (t .shares r i ≡ true) × (t .shares (lowest (row t r)) i ≡ true)
   between-shares i h = and-parts _ _ (sym (between-has i) ∙ h)
 
@@ -37,7 +38,7 @@ module _ (t : Table) (sound : Sound t) (r : ℕ) where
 
   -- where some baseline is between, r is not alone
   pub between-shared : (i : ℕ) → has (between t r) i ≡ true → row t r ≢ 0
-  between-shared i h e = both-ways _ (ap (λ m. has m i) e ∙ has-none i) (row-has t sound r i ∙ between-shares i h .0)
+  between-shared i h = not-empty (row t r) i (row-has t sound r i ∙ between-shares i h .0)
 
   -- the first star is a set of baselines
   pub first-lt : (x : Option ℕ) → r < 64 → first t r x < 2 ^ 64
@@ -46,8 +47,8 @@ module _ (t : Table) (sound : Sound t) (r : ℕ) where
       let own = single-lt 64 r l in
       cond-both (eqb (row t r) 0) _ _ (λ a. a < 2 ^ 64)
       (λ _. own)
-      (λ e. let low = lowest-lt (row t r) (eqb-false _ _ e) (row-lt t r) in
-      or-lt 64 _ _ (or-lt 64 _ _ own (single-lt 64 _ low)) (minus-lt 64 _ _ between-lt))
+      (λ e. let low = lowest-is (row t r) (eqb-false _ _ e) (row-lt t r) in
+      or-lt 64 _ _ (or-lt 64 _ _ own (single-lt 64 _ (low .below))) (minus-lt 64 _ _ between-lt))
 
   -- a lone baseline is alone in the first star
   pub first-lone : (x : Option ℕ) → row t r ≡ 0 → first t r x ≡ single r
@@ -55,10 +56,11 @@ module _ (t : Table) (sound : Sound t) (r : ℕ) where
   first-lone x lone = cond-true _ _ _ (eq-eqb _ _ lone)
 
   module _ (shared : row t r ≢ 0) where
-    -- the lowest that shares with r does share with r, and no lower one does
+    -- the lowest that shares with r does share with r
     pub lowest-shares : t .shares r (lowest (row t r)) ≡ true
     lowest-shares = sym (row-has t sound r _) ∙ lowest-is (row t r) shared (row-lt t r) .member
 
+    -- and no lower one does
     pub lower-shares : (j : ℕ) → j < lowest (row t r) → t .shares r j ≡ false
     lower-shares j l = sym (row-has t sound r j) ∙ lowest-is (row t r) shared (row-lt t r) .least j l
 

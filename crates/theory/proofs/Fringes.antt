@@ -1,24 +1,20 @@
 -- The fringe of a walk: where to go next, and what it means that there is nowhere to go.
-use mathlib.Core.Path.{_≡_, sym, ap, _∙_}
+use mathlib.Core.Path.{_≡_, sym, _∙_}
 use mathlib.Core.Bool.{true, false, not, _&&_}
 use mathlib.Core.Logic.{⊎-elim}
 use Prim.Native.Nat.{ℕ, _^_, _<_}
 use native.Mathlib.Omega.{arith}
 use lib.Bits.{bitAnd}
 use lib.Dec.{eqb, ltb}
-use Rattle.std.proofs.shelf.Tests.{both-ways, cases-bool, and-parts, and-from, not-true, not-from-false, eqb-false, ne-eqb, lt-ltb}
+use Rattle.std.proofs.shelf.Tests.{cases-bool, and-parts, and-from, not-true, not-from-false, eqb-false, ne-eqb, lt-ltb}
 use Rattle.std.proofs.shelf.Bits.{and-le-l}
 use Rattle.bitset.specs.Sets.{has, lowest}
-use Rattle.bitset.proofs.Members.{has-and, has-none, has-set-of, set-of-lt, lowest-is}
+use Rattle.bitset.proofs.Members.{has-and, has-set-of, set-of-lt, not-empty, lowest-is}
 use Rattle.evidence.specs.Table.{Table, Sound}
 use Rattle.theory.specs.Stars.{row}
 use Rattle.theory.specs.Walks.{fringe}
 use Rattle.theory.proofs.Rows.{row-has, row-lt}
 use Rattle.theory.proofs.Reaches.{shares-lt}
-
--- a set with a member is not empty
-pub not-empty : (m i : ℕ) → has m i ≡ true → m ≡ 0 → ⊥
-not-empty m i h z = both-ways _ (ap (λ x. has x i) z ∙ has-none i) h
 
 module _ (t : Table) (sound : Sound t) where
   -- when a baseline is in the fringe

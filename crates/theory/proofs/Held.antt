@@ -6,7 +6,7 @@ use Prim.Native.Nat.{ℕ, zero, suc, _+_, _≤_, _<_}
 use native.Mathlib.Omega.{arith}
 use lib.Dec.{eqb, ltb}
 use Rattle.std.proofs.shelf.Sums.{sumBy-append}
-use Rattle.std.proofs.shelf.Tests.{both-ways, cases-lt, lt-ltb, le-ltb, ne-eqb}
+use Rattle.std.proofs.shelf.Tests.{both-ways, cases-lt, lt-ltb, le-ltb}
 use Rattle.std.proofs.shelf.Ways.{tells}
 use Rattle.bitset.specs.Sets.{has, lowest}
 use Rattle.evidence.specs.Table.{Table, Sound}
@@ -47,10 +47,8 @@ module _ {t : Table} (sound : Sound t) {near : ℕ → ℕ} (good : Stars t (λ 
   -- a star of i begins at i or below
   begins-le : (i : ℕ) (s : Bool) → i < t .count → lowest (star t near i s) ≤ i
   begins-le i s l =
-      let x = star-two sound good i s l in
-      let up = x .rises in
       ⊎-elim
-      (λ h. absurd (both-ways _ (x .below-second i (omega arith) ∙ ne-eqb i _ (omega arith)) (star-self sound good i s l)))
+      (λ h. absurd (both-ways _ (star-two sound good i s l .low .least i h) (star-self sound good i s l)))
       (λ h. h)
       (cases-lt i (lowest (star t near i s)))
 

@@ -1,28 +1,23 @@
 -- A layout of a cluster gives a system of stars, and three baselines have a common imager just where they have a common star.
 use mathlib.Core.Path.{_≡_, sym, ap, subst, _∙_}
 use mathlib.Core.Logic.{⊎-elim, _↔_}
-use mathlib.Core.Bool.{Bool, true, false, cond, not, _&&_, _||_}
-use Prim.Native.Nat.{ℕ, _+_, _^_, _≤_, _<_}
-use native.Mathlib.Omega.{arith}
+use mathlib.Core.Bool.{Bool, true, false, not, _&&_, _||_}
+use Prim.Native.Nat.{ℕ, _^_, _≤_, _<_}
 use lib.Dec.{eqb, ltb}
 use Rattle.std.proofs.shelf.Tests.{and-parts, and-left, eq-eqb, ne-eqb, cases-bool, cases-eq, cases-lt, lt-ltb, le-ltb, both-ways}
-use Rattle.std.proofs.shelf.Ways.{tells}
 use Rattle.bitset.specs.Sets.{has, set-of}
-use Rattle.bitset.proofs.Members.{has-set-of, set-of-lt, same-set, has-past}
+use Rattle.bitset.proofs.Members.{has-set-of, set-of-lt, same-set, has-past, unless}
 use Rattle.evidence.specs.Table.{Table, Sound}
 use Rattle.theory.specs.Layout.{Ends, stands, LayoutOn}
 use Rattle.theory.specs.Groups.{Trio, has-trio}
 use Rattle.theory.specs.Clusters.{Reach, step}
 use Rattle.theory.specs.Stars.{far, Stars, star-trio}
 use Rattle.theory.specs.Walks.{cluster}
-use Rattle.theory.proofs.Trios.{end-of, stands-lower, stands-higher, trio-test}
-use Rattle.theory.proofs.Reaches.{reach-below}
+use Rattle.theory.proofs.Ends.{end-at, stands-end, end-side, one-end}
+use Rattle.theory.proofs.Trios.{trio-test}
+use Rattle.theory.proofs.Reaches.{reach-lt}
 use Rattle.theory.proofs.Walks.{walk-cluster, cluster-lt}
 use Rattle.theory.proofs.StarFacts.{far-has, far-lt}
-
--- one of the two imagers of a baseline
-abbrev pub end-at : Ends → Bool → ℕ
-end-at e s = cond s (e .0) (e .1)
 
 -- the star of imager a: the baselines of the cluster of r that it is at
 unfoldable pub star-at : Table → ℕ → (ℕ → Ends) → ℕ → ℕ
@@ -31,15 +26,6 @@ star-at t r e a = set-of (λ i. has (cluster t r) i && stands a (e i)) 64
 -- the stars that a layout gives to the baselines of the cluster of r
 abbrev pub layout-star : Table → ℕ → (ℕ → Ends) → ℕ → Bool → ℕ
 layout-star t r e v s = star-at t r e (end-at (e v) s)
-
--- one end of v is at what shares with v and is not at the other end
-split : (x y s : Bool) → cond x 1 0 + cond y 1 0 ≡ cond s 1 0 → (s && not x) ≡ y
-split x y s h = grind (arith, tells)
-
--- both ends of a baseline are at it
-stands-end : (e : Ends) (s : Bool) → stands (end-at e s) e ≡ true
-stands-end e true = stands-lower e
-stands-end e false = stands-higher e
 
 module _ (t : Table) (sound : Sound t) (r : ℕ) (below : r < t .count) {e : ℕ → Ends} (fits : LayoutOn t (Reach t r) e) where
   -- the star of a holds what is in the cluster and at a
@@ -72,25 +58,21 @@ module _ (t : Table) (sound : Sound t) (r : ℕ) (below : r < t .count) {e : ℕ
           ap (λ x. x || (t .shares v i && not (stands (end-at (e v) s) (e i)))) (eq-eqb v i p)
           ∙ sym (ap (λ x. stands (end-at (e v) (not s)) (e x)) (sym p) ∙ stands-end (e v) (not s))
 
-      meet : (s : Bool) → (v ≡ i → ⊥) → (t .shares v i && not (stands (end-at (e v) s) (e i))) ≡ stands (end-at (e v) (not s)) (e i)
-      meet true p = split _ _ _ (fits .meets v i cv ci p)
-      meet false p =
-          let m = fits .meets v i cv ci p in
-          split (stands (e v .1) (e i)) (stands (e v .0) (e i)) (t .shares v i) (omega arith)
-
       apart : (v ≡ i → ⊥) → (eqb v i || (t .shares v i && not (stands (end-at (e v) s) (e i)))) ≡ stands (end-at (e v) (not s)) (e i)
-      apart p = ap (λ x. x || (t .shares v i && not (stands (end-at (e v) s) (e i)))) (ne-eqb v i p) ∙ meet s p
+      apart p =
+          ap (λ x. x || (t .shares v i && not (stands (end-at (e v) s) (e i)))) (ne-eqb v i p)
+          ∙ sym (one-end fits v i cv ci p s .1)
 
   -- what is not in the cluster shares with none of it
   outside : (v i : ℕ) → Reach t r v → has (cluster t r) i ≡ false → (eqb v i ≡ false) × (t .shares v i ≡ false)
   outside v i c out =
       let away : Reach t r i → ⊥ = λ d. both-ways _ out (walk-cluster t sound r below i .1 d) in
-      (ne-eqb v i (λ p. away (subst (Reach t r) p c)), ⊎-elim (λ h. absurd (away (step c h))) (λ h. h) (cases-bool (t .shares v i)))
+      (ne-eqb v i (λ p. away (subst (Reach t r) p c)), unless (t .shares v i) (λ h. away (step c h)))
 
   -- the two stars of a baseline are each other's other
   star-at-other : (v : ℕ) (s : Bool) → Reach t r v → far t v (layout-star t r e v s) ≡ layout-star t r e v (not s)
   star-at-other v s c =
-      same-set 64 _ _ (far-lt t v _ (omega (arith, sound .few, reach-below t sound below c))) (star-at-lt (end-at (e v) (not s)))
+      same-set 64 _ _ (far-lt t v _ (reach-lt t sound below c)) (star-at-lt (end-at (e v) (not s)))
       (λ i l. far-has sound v _ i ∙ ⊎-elim (members i) (others i) (cases-bool (has (cluster t r) i)))
     where
       members : (i : ℕ) → has (cluster t r) i ≡ true
@@ -108,8 +90,8 @@ module _ (t : Table) (sound : Sound t) (r : ℕ) (below : r < t .count) {e : ℕ
   layout-stars = record {
     other = star-at-other;
     along = λ v s w c h.
-        ⊎-elim (λ p. (true, ap (star-at t r e) p)) (λ p. (false, ap (star-at t r e) p))
-        (end-of _ (e w) (and-parts _ _ (sym (star-at-has _ w) ∙ h) .1));
+        let x = end-side (e w) _ (and-parts _ _ (sym (star-at-has _ w) ∙ h) .1) in
+        (x .0, ap (star-at t r e) (x .1));
     inside = λ v s w c h. walk-cluster t sound r below w .0 (and-parts _ _ (sym (star-at-has _ w) ∙ h) .0);
     small = λ v s c. star-at-lt (end-at (e v) s);
   }

@@ -1,5 +1,6 @@
--- Tables: rows, threes with a common imager, clusters and walks through them.
+-- Tables and layouts: rows, ends, threes with a common imager, clusters and walks through them.
 pub mod Rows
+pub mod Ends
 pub mod Trios
 pub mod Reaches
 pub mod Counts
@@ -8,7 +9,6 @@ pub mod Walks
 pub mod Roots
 pub mod Whole
 -- Stars: what two stars for each baseline are, and that a layout gives them.
-pub mod Ends
 pub mod StarFacts
 pub mod LayoutStars
 -- The search on one cluster: spread, test, starts, preference.
@@ -47,3 +47,5 @@ pub mod LowestThat
 pub mod Searched
 pub mod SameAnswer
 pub mod Rigs
+-- Drawings are found again.
+pub mod Drawn

@@ -8,7 +8,7 @@ use lib.Count.{trailing-of-zero, trailing-le}
 use lib.Dec.{eqb}
 use Rattle.std.proofs.shelf.Tests.{and-parts, both-ways, cases-eq, cases-lt, cond-both, eqb-true, eqb-false, not-true}
 use Rattle.bitset.specs.Sets.{has, single, drop, lowest, Lowest}
-use Rattle.bitset.proofs.Members.{has-none, has-drop, lowest-is, lowest-least, minus-lt}
+use Rattle.bitset.proofs.Members.{has-drop, not-empty, lowest-is, lowest-least, minus-lt}
 use Rattle.theory.specs.Imagers.{second}
 
 -- the second lowest baseline is one or is none
@@ -18,7 +18,7 @@ second-le a = trailing-le 64 (drop a (lowest a))
 
 -- What the lowest and the second lowest baseline of a star say of it; a second of 64 is none.
 pub record Lowest-two (a : ℕ) : Type 0 where
-  pub lowest-in : has a (lowest a) ≡ true
+  pub low : Lowest a (lowest a)
   pub rises : lowest a < second a
   pub below-second : (k : ℕ) → k < second a → has a k ≡ eqb k (lowest a)
   pub second-in : second a < 64 → has a (second a) ≡ true
@@ -34,14 +34,14 @@ is-low false false h k = refl
 pub lowest-two : (a v : ℕ) → a < 2 ^ 64 → has a v ≡ true → Lowest-two a
 unfolding second
 lowest-two a v l h = record {
-  lowest-in = low .member;
+  low = low;
   rises = ⊎-elim none-rises (λ d. some-rises (some d)) (cases-eq rest 0);
   below-second = λ k below. is-low _ _ (sym (rest-has k) ∙ lowest-least 64 rest k below) (λ p. ap (has a) (eqb-true k _ p) ∙ low .member);
   second-in = λ below. some (λ z. omega (arith, none z)) .0;
 }
   where
     low : Lowest a (lowest a)
-    low = lowest-is a (λ z. both-ways _ (ap (λ x. has x v) z ∙ has-none v) h) l
+    low = lowest-is a (not-empty a v h) l
 
     -- the star without its lowest baseline
     rest : ℕ

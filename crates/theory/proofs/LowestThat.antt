@@ -38,3 +38,24 @@ lowest-some p (suc n) i e = go (lowest-that p n) (p n) refl (lowest-some p n i) 
     go None true here before none e =
         let q : n ≡ i = cc in
         (omega arith, ap p (sym q) ∙ here, λ v h. none refl v (omega arith))
+
+-- the other way round: where none passes there is none
+pub none-lowest : (p : ℕ → Bool) (n : ℕ) → ((v : ℕ) → v < n → p v ≡ false) → lowest-that p n ≡ None
+unfolding lowest-that
+none-lowest p zero h = refl
+none-lowest p (suc n) h =
+    let before = none-lowest p n (λ v l. h v (omega arith)) in
+    let here = h n (omega arith) in
+    rw (before, here)
+
+-- and a number that passes, with none below it, is the lowest
+pub some-lowest : (p : ℕ → Bool) (n i : ℕ) → i < n → p i ≡ true → ((v : ℕ) → v < i → p v ≡ false) → lowest-that p n ≡ Some i
+unfolding lowest-that
+some-lowest p zero i l yes-i h = absurd (omega arith)
+some-lowest p (suc n) i l yes-i h =
+    ⊎-elim
+    (λ e. let before = none-lowest p n (λ v k. h v (omega arith)) in
+    let here : p n ≡ true = ap p (sym e) ∙ yes-i in
+    rw (before, here) (ap Some (sym e)))
+    (λ ne. let before = some-lowest p n i (omega arith) yes-i h in rw before)
+    (cases-eq i n)

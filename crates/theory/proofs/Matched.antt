@@ -1,6 +1,6 @@
 -- Layouts of a table that group alike have the same two imagers at each baseline, told by the baselines that they are at.
 use mathlib.Core.Path.{_≡_, refl, sym, ap, subst, _∙_}
-use mathlib.Core.Bool.{Bool, true, false, not, _&&_, _||_}
+use mathlib.Core.Bool.{Bool, true, false, not, _&&_, _||_, or-comm}
 use mathlib.Core.Logic.{_⊎_, inl, inr, ⊎-elim, _≢_}
 use Prim.Native.Nat.{ℕ, _<_}
 use native.Mathlib.Omega.{arith}
@@ -10,8 +10,7 @@ use Rattle.evidence.specs.Table.{Table}
 use Rattle.theory.specs.Layout.{Ends, stands, Layout}
 use Rattle.theory.specs.Groups.{has-trio, GroupAlike}
 use Rattle.theory.proofs.Below.{all-or-some}
-use Rattle.theory.proofs.StarFacts.{one-or-other}
-use Rattle.theory.proofs.Ends.{end-at, both-stand, one-end}
+use Rattle.theory.proofs.Ends.{end-at, both-stand, one-or-other, one-end}
 use Rattle.theory.proofs.Alike.{alike-trio}
 
 -- Imager a of e and imager b of f are at the same baselines below n.
@@ -23,10 +22,8 @@ trio-ends : (e : ℕ → Ends) (i j k : ℕ) (s : Bool)
     → has-trio e i j k ≡ ((stands (end-at (e i) s) (e j) && stands (end-at (e i) s) (e k))
     || (stands (end-at (e i) (not s)) (e j) && stands (end-at (e i) (not s)) (e k)))
 trio-ends e i j k true = refl
-trio-ends e i j k false = turned (stands (e i .0) (e j)) (stands (e i .0) (e k)) (stands (e i .1) (e j)) (stands (e i .1) (e k))
-  where
-    turned : (a b c d : Bool) → ((a && b) || (c && d)) ≡ ((c && d) || (a && b))
-    turned a b c d = grind (arith, tells)
+trio-ends e i j k false =
+    or-comm (stands (e i .0) (e j) && stands (e i .0) (e k)) (stands (e i .1) (e j) && stands (e i .1) (e k))
 
 -- where j is at the one end in e or at the lower end in f, and not at both, it is at the one in e just where it is at the higher in f,
 -- and so is k, if three baselines with a common imager are the same in both

@@ -63,7 +63,7 @@ module _ {t : Table} (sound : Sound t) {near : ℕ → ℕ} (good : Stars t (λ 
           let x = stands-ends i j li lj in
           ap₂ (λ x y. one x + one y) (x .0) (x .1) ∙ stars-at-ends sound good (λ a. has a j) i li ∙ shared i j li ij
 
-  -- three have a common imager where they have a common star: by the tests, and by the fact
+  -- the test of a common imager passes where the test of a common star does
   pub numbering-trio : (i j k : ℕ) → i < t .count → j < t .count → k < t .count
       → has-trio (layout-of t near) i j k ≡ star-trio (star t near) i j k
   numbering-trio i j k li lj lk =
@@ -72,6 +72,7 @@ module _ {t : Table} (sound : Sound t) {near : ℕ → ℕ} (good : Stars t (λ 
       ap₂ _||_ (ap₂ _&&_ (x .0) (y .0)) (ap₂ _&&_ (x .1) (y .1))
       ∙ same-or _ _ _ _ (stars-at-ends sound good (λ a. has a j && has a k) i li)
 
+  -- three have a common imager just where they have a common star
   pub numbering-groups : (i j k : ℕ) → i < t .count → j < t .count → k < t .count
       → Trio (layout-of t near) i j k ↔ (star-trio (star t near) i j k ≡ true)
   numbering-groups i j k li lj lk =

@@ -6,9 +6,9 @@ use Prim.Native.Nat.{ℕ, _≤_, _<_}
 use native.Mathlib.Omega.{arith}
 use Rattle.std.specs.declared.option.Option.{Option}
 use Rattle.std.specs.declared.option.Option.the-variants.{Some, None}
-use Rattle.std.proofs.shelf.Tests.{eq-eqb, ne-eqb, cases-bool, cases-lt, cases-order, both-ways}
+use Rattle.std.proofs.shelf.Tests.{ne-eqb, cases-lt, cases-order, both-ways}
 use Rattle.bitset.specs.Sets.{has, lowest}
-use Rattle.bitset.proofs.Members.{has-single, has-none}
+use Rattle.bitset.proofs.Members.{has-single, single-has, has-none, unless}
 use Rattle.evidence.specs.Table.{Table, Sound}
 use Rattle.theory.specs.Groups.{Three, Sooner}
 use Rattle.theory.specs.Clusters.{Reach, here, step}
@@ -49,18 +49,14 @@ module _ {t : Table} (sound : Sound t) {r : ℕ} {st : ℕ → Bool → ℕ} (go
   -- what does not share is in no three
   trio-none : (i j k : ℕ) → Reach t r i → i ≢ j → t .shares i j ≡ false → star-trio st i j k ≡ false
   trio-none i j k c ne h =
-      ⊎-elim (λ y. absurd (both-ways _ h (trio-shares-first sound good i j k c y ne))) (λ y. y) (cases-bool (star-trio st i j k))
+      unless (star-trio st i j k) (λ y. both-ways _ h (trio-shares-first sound good i j k c y ne))
 
   -- the threes of r and one in its one star are told by that star
   trio-in : (s k : ℕ) (q : Bool) → t .shares r s ≡ true → has (st r q) s ≡ true → star-trio st r s k ≡ has (st r q) k
   trio-in s k q share h = trio-side st r s k q ∙ simp (h, gone) (or-false (has (st r q) k))
     where
       gone : has (st r (not q)) s ≡ false
-      gone =
-          ⊎-elim
-          (λ l. absurd (shares-apart sound r s share (star-meet sound good r q s here h l)))
-          (λ l. l)
-          (cases-bool (has (st r (not q)) s))
+      gone = unless _ (λ l. shares-apart sound r s share (star-meet sound good r q s here h l))
 
   -- the threes of r and the lowest that shares with r are told by the first star
   first-trio : (q : Bool) (x : Option ℕ) → row t r ≢ 0 → st r q ≡ first t r x
@@ -80,7 +76,7 @@ module _ {t : Table} (sound : Sound t) {r : ℕ} (root : (j : ℕ) → Reach t r
     in-cluster = (here, step here (lowest-shares t sound r shared), step here rd);
     rising = (r-s, s-d);
     ours = first-trio sound good q x shared e d ∙ first-between t sound r x d b ∙ ap not (crossed-before x d d before (omega arith));
-    theirs = first-trio sound fine p (Some d) shared f d ∙ first-between t sound r (Some d) d b ∙ ap not (has-single d d ∙ eq-eqb d d refl);
+    theirs = first-trio sound fine p (Some d) shared f d ∙ first-between t sound r (Some d) d b ∙ ap not (single-has d);
     agree = agree;
   }
     where

@@ -17,6 +17,7 @@ pushed p n new = cond (ltb p n) p (cond new n (suc n))
 pushed-suc : (p n : ℕ) (new : Bool) → suc (pushed p n new) ≡ pushed (suc p) (suc n) new
 pushed-suc p n new = grind (arith, tells)
 
+-- the first place of v, with the star a put at the end
 pub place-push : (v a : ℕ) (stars : List ℕ) → place v (stars ++ a ∷ []) ≡ pushed (place v stars) (length stars) (has a v)
 unfolding place
 place-push v a [] = refl
@@ -27,6 +28,7 @@ place-push v a (b ∷ stars) = here (has b v) (place-push v a stars)
     here true e = grind (arith, tells)
     here false e = ap suc e ∙ pushed-suc (place v stars) (length stars) (has a v)
 
+-- the second place of v: a takes it if v had a first place and no second
 pub second-push : (v a : ℕ) (stars : List ℕ)
     → second-place v (stars ++ a ∷ []) ≡ pushed (second-place v stars) (length stars) (ltb (place v stars) (length stars) && has a v)
 unfolding place second-place

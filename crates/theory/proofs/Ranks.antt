@@ -27,19 +27,15 @@ pub record Differs-first (n a b : ℕ) : Type 0 where
 abbrev pub Compared : ℕ → ℕ → ℕ → Type 0
 Compared n a b = ((i : ℕ) → i < n → has a i ≡ has b i) ⊎ Differs-first n a b
 
--- no baseline below the lowest is in the star
-missing : (a : ℕ) → Lowest-two a → (j : ℕ) → j < lowest a → has a j ≡ false
-missing a two j l = let up = two .rises in two .below-second j (omega arith) ∙ ne-eqb j (lowest a) (omega arith)
-
 module _ (n a b : ℕ) (two-a : Lowest-two a) (two-b : Lowest-two b) (inside : (k : ℕ) → has a k ≡ true → k < n) where
   -- where the lowest baselines differ, the lower one is in the first star alone
   lowest-differs : lowest a < lowest b → Differs-first n a b
   lowest-differs h = record {
     at = lowest a;
-    below = inside (lowest a) (two-a .lowest-in);
-    first = two-a .lowest-in;
-    not-second = missing b two-b (lowest a) h;
-    before = λ j l. missing a two-a j l ∙ sym (missing b two-b j (omega arith));
+    below = inside (lowest a) (two-a .low .member);
+    first = two-a .low .member;
+    not-second = two-b .low .least (lowest a) h;
+    before = λ j l. two-a .low .least j l ∙ sym (two-b .low .least j (omega arith));
   }
 
   -- where they are the same and the second ones differ, the lower of those is in the first star alone
@@ -77,8 +73,8 @@ module _ {t : Table} (sound : Sound t) {near : ℕ → ℕ} (good : Stars t (λ 
       some : second a < 64 → has a i ≡ has b i
       some h =
           ap (λ c. has c i) (star-same sound good v w q s (lowest a) (second a) lv lw (omega (arith, two-a .rises))
-          (two-a .lowest-in) (two-a .second-in h)
-          (ap (has b) low ∙ two-b .lowest-in) (ap (has b) sec ∙ two-b .second-in (omega arith)))
+          (two-a .low .member) (two-a .second-in h)
+          (ap (has b) low ∙ two-b .low .member) (ap (has b) sec ∙ two-b .second-in (omega arith)))
 
       none : 64 ≤ second a → has a i ≡ has b i
       none h =

@@ -40,6 +40,10 @@ module _ (t : Table) (sound : Sound t) where
   reach-below l here = l
   reach-below l (step {j} {k} a s) = shares-below j k s
 
+  -- and so none from 64 on
+  pub reach-lt : {i j : ℕ} → i < t .count → Reach t i j → j < 64
+  reach-lt l a = let few = sound .few in omega (arith, reach-below l a)
+
   -- a baseline that shares with none reaches only itself
   pub reach-alone : {i j : ℕ} → ((k : ℕ) → t .shares i k ≡ false) → Reach t i j → j ≡ i
   reach-alone lone here = refl

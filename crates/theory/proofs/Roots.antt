@@ -6,12 +6,11 @@ use Prim.Native.Nat.{ℕ, _≤_, _<_}
 use Rattle.std.proofs.shelf.Tests.{both-ways, cases-lt}
 use Rattle.std.proofs.shelf.Ways.{same-from-decides, decides-like}
 use Rattle.bitset.specs.Sets.{has, lowest, Lowest}
-use Rattle.bitset.proofs.Members.{lowest-is, same-set}
+use Rattle.bitset.proofs.Members.{not-empty, lowest-is, same-set}
 use Rattle.evidence.specs.Table.{Table, Sound}
 use Rattle.theory.specs.Clusters.{Reach, here}
 use Rattle.theory.specs.Walks.{cluster, root}
 use Rattle.theory.proofs.Reaches.{reach-join, reach-back, reach-below}
-use Rattle.theory.proofs.Fringes.{not-empty}
 use Rattle.theory.proofs.Walks.{walk-cluster, cluster-lt}
 
 module _ (t : Table) (sound : Sound t) where

@@ -1,20 +1,21 @@
 -- The rows of a sound table say what the table says.
-use mathlib.Core.Path.{_≡_, refl, sym, ap, _∙_}
-use mathlib.Core.Bool.{Bool, true, false, _&&_}
+use mathlib.Core.Path.{_≡_, sym, ap, _∙_}
+use mathlib.Core.Bool.{_&&_}
 use mathlib.Core.Logic.{⊎-elim}
-use Prim.Native.Nat.{ℕ, _^_, _≤_, _<_}
+use Prim.Native.Nat.{ℕ, _^_, _<_}
 use native.Mathlib.Omega.{arith}
-use lib.Dec.{ltb}
 use Rattle.std.proofs.shelf.Tests.{cases-lt, lt-ltb, le-ltb, and-left}
-use Rattle.bitset.specs.Sets.{has, set-of}
+use Rattle.bitset.specs.Sets.{has}
 use Rattle.bitset.proofs.Members.{has-set-of, set-of-lt}
 use Rattle.evidence.specs.Table.{Table, Sound}
 use Rattle.theory.specs.Stars.{row}
 
+-- a row is a set of numbers below 64
 pub row-lt : (t : Table) (i : ℕ) → row t i < 2 ^ 64
 unfolding row
 row-lt t i = set-of-lt (t .shares i) 64
 
+-- the row of i holds what shares with i
 pub row-has : (t : Table) → Sound t → (i j : ℕ) → has (row t i) j ≡ t .shares i j
 unfolding row
 row-has t sound i j =

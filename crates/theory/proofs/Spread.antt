@@ -8,7 +8,7 @@ use native.Mathlib.Omega.{arith}
 use lib.Bits.{bitOr}
 use Rattle.std.proofs.shelf.Tests.{or-cases, or-left, or-right, eqb-true, eq-eqb, ne-eqb, cond-true, cond-false, cond-both, cases-bool, both-ways}
 use Rattle.bitset.specs.Sets.{has, single}
-use Rattle.bitset.proofs.Members.{has-or, has-single}
+use Rattle.bitset.proofs.Members.{has-or, has-single, single-has}
 use Rattle.evidence.specs.Table.{Table, Sound}
 use Rattle.theory.specs.Stars.{far, Stars}
 use Rattle.theory.specs.Walks.{Steps, none, more}
@@ -57,10 +57,6 @@ handed-lt sound {near} l v (hand {p} h share k) = omega (arith, hand-lt sound p 
 
 -- ---- What the spread hands down along a walk
 
--- a baseline is in the set of it alone
-met-self : (v : ℕ) → has (single v) v ≡ true
-met-self v = has-single v v ∙ eq-eqb v v refl
-
 -- the near stars are as the spread says wherever the walk came
 abbrev Follows : Table → ℕ → ℕ → (ℕ → ℕ) → List (ℕ × ℕ) → ℕ → Type 0
 Follows t r a near steps met = (w : ℕ) → has met w ≡ true → near w ≡ spread t r a steps w
@@ -76,7 +72,7 @@ module _ (t : Table) (r a : ℕ) where
   -- r keeps the first star
   follows-start : {steps : List (ℕ × ℕ)} {met : ℕ} (near : ℕ → ℕ) → Steps t r steps met → Follows t r a near steps met → near r ≡ a
   unfolding spread
-  follows-start near none is = is r (met-self r) ∙ cond-true _ _ _ (eq-eqb r r refl)
+  follows-start near none is = is r (single-has r) ∙ cond-true _ _ _ (eq-eqb r r refl)
   follows-start near (more {steps} {met} {p} {v} s mp nv share) is = follows-start near s (follows-before steps met p v near nv is)
 
   -- each baseline met has a near star that was handed down to it
@@ -88,16 +84,17 @@ module _ (t : Table) (r a : ℕ) where
   follows-handed near (more {steps} {met} {p} {v} s mp nv share) is w h =
       let was = follows-before steps met p v near nv is in
       let now : near v ≡ handed t p (near p) v =
-      is v (has-or _ _ v ∙ or-right _ _ (met-self v)) ∙ cond-true _ _ _ (eq-eqb v v refl) ∙ ap (λ x. handed t p x v) (sym (was p mp)) in
+      is v (has-or _ _ v ∙ or-right _ _ (single-has v)) ∙ cond-true _ _ _ (eq-eqb v v refl) ∙ ap (λ x. handed t p x v) (sym (was p mp)) in
       ⊎-elim
       (follows-handed near s was w)
       (λ k. subst (Handed t r a near) (eqb-true v w (sym (has-single v w) ∙ k)) (hand (follows-handed near s was p mp) share now))
       (or-cases _ _ (sym (has-or _ _ w) ∙ h))
 
-  -- so it is with the spread itself
+  -- so the spread leaves r the first star
   pub spread-start : {steps : List (ℕ × ℕ)} {met : ℕ} → Steps t r steps met → spread t r a steps r ≡ a
   spread-start s = follows-start _ s (λ w h. refl)
 
+  -- and hands each baseline met its near star
   pub spread-handed : {steps : List (ℕ × ℕ)} {met : ℕ} → Steps t r steps met
       → (v : ℕ) → has met v ≡ true → Handed t r a (spread t r a steps) v
   spread-handed s = follows-handed _ s (λ w h. refl)

@@ -1,6 +1,6 @@
 -- What holds of every system of stars: which baselines are in a star, and that two baselines fix the star they are in.
 use mathlib.Core.Path.{_≡_, refl, sym, ap, ap₂, _∙_}
-use mathlib.Core.Logic.{_⊎_, inl, inr, ⊎-elim, _≢_}
+use mathlib.Core.Logic.{⊎-elim, _≢_}
 use mathlib.Core.Bool.{Bool, true, false, not, _&&_, _||_, and-comm, or-comm}
 use Prim.Native.Nat.{ℕ, _^_, _<_}
 use native.Mathlib.Omega.{arith}
@@ -13,13 +13,7 @@ use Rattle.bitset.proofs.Members.{has-or, has-minus, has-single, minus-lt, sing
 use Rattle.evidence.specs.Table.{Table, Sound}
 use Rattle.theory.specs.Stars.{far, Stars, star-trio}
 use Rattle.theory.proofs.Rows.{row-has, row-lt}
-
--- a side is the one or the other
-pub one-or-other : (q s : Bool) → (q ≡ s) ⊎ (q ≡ not s)
-one-or-other true true = inl refl
-one-or-other true false = inr refl
-one-or-other false true = inr refl
-one-or-other false false = inl refl
+use Rattle.theory.proofs.Ends.{one-or-other}
 
 -- what shares with v is not v
 pub shares-apart : {t : Table} → Sound t → (v w : ℕ) → t .shares v w ≡ true → v ≢ w
@@ -45,7 +39,7 @@ in-one x r a b e h k = grind (arith, tells)
 in-near : (x r a b : Bool) → a ≡ (x || (r && not b)) → a ≡ true → x ≡ false → r ≡ true
 in-near x r a b e h k = grind (arith, tells)
 
--- three have a star in common just where a star of the first holds the others
+-- where three have a star in common, a star of the first holds the others
 pub trio-star : (st : ℕ → Bool → ℕ) (i j k : ℕ) → star-trio st i j k ≡ true
     → (s : Bool) × (has (st i s) j ≡ true) × (has (st i s) k ≡ true)
 trio-star st i j k h =
@@ -54,6 +48,7 @@ trio-star st i j k h =
     (λ p. let x = and-parts _ _ p in (false, x .0, x .1))
     (or-cases (has (st i true) j && has (st i true) k) _ h)
 
+-- where a star of the first holds the others, three have a star in common
 pub star-has-trio : (st : ℕ → Bool → ℕ) (i j k : ℕ) (s : Bool) → has (st i s) j ≡ true → has (st i s) k ≡ true → star-trio st i j k ≡ true
 star-has-trio st i j k true h l = or-left _ _ (and-from _ _ h l)
 star-has-trio st i j k false h l = or-right _ _ (and-from _ _ h l)
@@ -118,14 +113,15 @@ module _ {t : Table} (sound : Sound t) {C : ℕ → Type 0} {st : ℕ → Bool �
       (λ e. absurd (ne (star-meet v (b .0) w (good .inside i s v ci iv) one (ap (λ y. has (st v y) w) (sym e) ∙ two))))
       (one-or-other (a .0) (b .0))
 
-  -- three with a star in common share with each other: the last two, and the first two
+  -- of three with a star in common the last two share
   pub trio-shares : (i j k : ℕ) → C i → star-trio st i j k ≡ true → j ≢ k → t .shares j k ≡ true
   trio-shares i j k c h ne = let x = trio-star st i j k h in star-clique i (x .0) j k c (x .1) (x .2) ne
 
+  -- and the first two
   pub trio-shares-first : (i j k : ℕ) → C i → star-trio st i j k ≡ true → i ≢ j → t .shares i j ≡ true
   trio-shares-first i j k c h ne = let x = trio-star st i j k h in star-shares i (x .0) j c (x .1) ne
 
-  -- the order of the first two does not matter
+  -- a star in common is one when the first two change places
   trio-turn : (i j k : ℕ) → C i → star-trio st i j k ≡ true → star-trio st j i k ≡ true
   trio-turn i j k c h =
       let x = trio-star st i j k h in
@@ -133,5 +129,6 @@ module _ {t : Table} (sound : Sound t) {C : ℕ → Type 0} {st : ℕ → Bool �
       star-has-trio st j i k (a .0)
       (ap (λ y. has y i) (sym (a .1)) ∙ star-self i (x .0) c) (ap (λ y. has y k) (sym (a .1)) ∙ x .2)
 
+  -- so the order of the first two does not matter
   pub trio-swaps-first : (i j k : ℕ) → C i → C j → star-trio st i j k ≡ star-trio st j i k
   trio-swaps-first i j k ci cj = same-from-decides _ _ (λ h. h, λ h. h) (trio-turn j i k cj, trio-turn i j k ci)

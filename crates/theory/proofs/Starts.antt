@@ -1,5 +1,5 @@
 -- Every system of stars on the cluster of r has the first star of a start.
-use mathlib.Core.Path.{_≡_, refl, sym, ap, _∙_}
+use mathlib.Core.Path.{_≡_, sym, ap, _∙_}
 use mathlib.Core.Logic.{_⊎_, inl, inr, ⊎-elim, _≢_}
 use mathlib.Core.Bool.{Bool, true, false, not, _&&_, _||_, or-false}
 use Prim.Native.Nat.{ℕ, _^_, _<_}
@@ -11,7 +11,7 @@ use Rattle.std.specs.declared.option.Option.the-variants.{Some, None}
 use Rattle.std.proofs.shelf.Tests.{and-parts, and-from, not-true, eqb-true, eqb-false, eq-eqb, ne-eqb, cases-bool, cases-eq, both-ways}
 use Rattle.std.proofs.shelf.Ways.{tells}
 use Rattle.bitset.specs.Sets.{has, minus, single, lowest}
-use Rattle.bitset.proofs.Members.{has-and, has-minus, has-single, has-none, same-set, empty-set, minus-lt, single-lt, lowest-is}
+use Rattle.bitset.proofs.Members.{has-and, has-minus, has-single, single-has, has-none, same-set, empty-set, minus-lt, single-lt, lowest-is, unless}
 use Rattle.evidence.specs.Table.{Table, Sound}
 use Rattle.theory.specs.Clusters.{Reach, here}
 use Rattle.theory.specs.Stars.{row, Stars}
@@ -108,12 +108,12 @@ module _ (t : Table) (sound : Sound t) (r : ℕ) (below : r < 64) {st : ℕ → 
   pub cross-between : (q : Bool) (x : ℕ) → has (between t r) x ≡ true → st r q ≡ first t r (Some x) → bitAnd (row t x) (between t r) ≡ 0
   cross-between q x b e =
       empty-set 64 _ (and-lt 64 _ _ (row-lt t x) (between-lt t sound r))
-      (λ y l. ⊎-elim (λ h. absurd (alone y h)) (λ h. h) (cases-bool (has (bitAnd (row t x) (between t r)) y)))
+      (λ y l. unless _ (alone y))
     where
       crosses-x : Crosses t r (lowest (row t r)) (st r q) x
       crosses-x =
           let p = between-shares t sound r x b in
-          (p .0, p .1, ap (λ a. has a x) e ∙ first-between t sound r (Some x) x b ∙ ap not (has-single x x ∙ eq-eqb x x refl))
+          (p .0, p .1, ap (λ a. has a x) e ∙ first-between t sound r (Some x) x b ∙ ap not (single-has x))
 
       alone : (y : ℕ) → has (bitAnd (row t x) (between t r)) y ≡ true → ⊥
       alone y h =

@@ -14,8 +14,7 @@ use Rattle.theory.specs.Theorems.{Answer-fixed}
 use Rattle.theory.proofs.Below.{by-smaller}
 use Rattle.theory.proofs.Order.{ahead-equal, ahead-both, same-baselines, same-list}
 use Rattle.theory.proofs.Alike.{chosen-alike}
-use Rattle.theory.proofs.Trios.{end-of}
-use Rattle.theory.proofs.Ends.{end-at, stands-end, which-end, ends-differ}
+use Rattle.theory.proofs.Ends.{end-at, stands-end, which-end, end-side, ends-differ}
 use Rattle.theory.proofs.Matched.{Same, both-same}
 
 -- Two layouts of a table that group alike, both numbered, with m and k imagers.
@@ -40,10 +39,6 @@ turned p = record {
 end-below : {n : ℕ} {e : ℕ → Ends} {m : ℕ} → Numbered n e m → (i : ℕ) → i < n → (s : Bool) → end-at (e i) s < m
 end-below num i l true = omega (arith, num .told i l)
 end-below num i l false = omega (arith, num .told i l)
-
--- an imager at a baseline is one of its ends
-end-side : (d : Ends) (a : ℕ) → stands a d ≡ true → (s : Bool) × (a ≡ end-at d s)
-end-side d a h = ⊎-elim (λ p. (true, p)) (λ p. (false, p)) (end-of a d h)
 
 module _ {t : Table} {e f : ℕ → Ends} {m k : ℕ} (p : Pair t e f m k) where
   -- where b in f has the baselines of a in e and is not below a, the list at a in f is not after that in e
@@ -119,7 +114,9 @@ same-imager {t} {e} {f} {m} {k} p =
 
 -- two rising pairs of the same numbers are equal
 same-pair : (d c : Ends) → d .0 < d .1 → c .0 < c .1 → stands (d .0) c ≡ true → stands (d .1) c ≡ true → d ≡ c
-same-pair d c h l x y = let z : (d .0 ≡ c .0) × (d .1 ≡ c .1) = omega (arith, end-of (d .0) c x, end-of (d .1) c y) in λ i. (z .0 i, z .1 i)
+same-pair d c h l x y =
+    let z : (d .0 ≡ c .0) × (d .1 ≡ c .1) = omega (arith, which-end c true (d .0) x, which-end c true (d .1) y) in
+    λ i. (z .0 i, z .1 i)
 
 -- two chosen layouts that are numbered have as many imagers and tell the same ends
 pub answer-fixed : Answer-fixed

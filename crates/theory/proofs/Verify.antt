@@ -17,9 +17,10 @@ use Rattle.theory.specs.Stars.{row, far, star, Stars}
 use Rattle.theory.specs.Walks.{cluster}
 use Rattle.theory.specs.Search.{all, agreed, fits-at, verified}
 use Rattle.theory.proofs.Rows.{row-has}
-use Rattle.theory.proofs.Reaches.{reach-below}
+use Rattle.theory.proofs.Ends.{one-or-other}
+use Rattle.theory.proofs.Reaches.{reach-lt}
 use Rattle.theory.proofs.Walks.{walk-cluster}
-use Rattle.theory.proofs.StarFacts.{one-or-other, far-has, far-lt, star-has, star-self}
+use Rattle.theory.proofs.StarFacts.{far-has, far-lt, star-has, star-self}
 
 -- the test of all numbers below n passes just where it passes at each
 pub all-tells : (p : ℕ → Bool) (n : ℕ) → Decides (all p n) ((k : ℕ) → k < n → p k ≡ true)
@@ -54,10 +55,6 @@ near-reach : (t : Table) (r v w : ℕ) → Reach t r v → (eqb v w || t .shares
 near-reach t r v w c h = ⊎-elim (λ e. subst (Reach t r) (eqb-true v w e) c) (λ e. step c e) (or-cases _ _ h)
 
 module _ (t : Table) (sound : Sound t) (r : ℕ) (below : r < t .count) (near : ℕ → ℕ) where
-  -- the baselines of the cluster are below 64
-  reach-lt : (v : ℕ) → Reach t r v → v < 64
-  reach-lt v c = omega (arith, sound .few, reach-below t sound below c)
-
   -- ---- What passes is a system of stars
 
   module _ (low : (v : ℕ) → Reach t r v → near v < 2 ^ 64) (pass : verified t r near ≡ true) where
@@ -67,7 +64,7 @@ module _ (t : Table) (sound : Sound t) (r : ℕ) (below : r < t .count) (near : 
         × (agreed t near (near v) ≡ true) × (agreed t near (far t v (near v)) ≡ true)
     unfolding verified fits-at
     passed v c =
-        let x = imp-at _ _ (all-tells _ 64 .0 pass v (reach-lt v c)) (walk-cluster t sound r below v .1 c) in
+        let x = imp-at _ _ (all-tells _ 64 .0 pass v (reach-lt t sound below c)) (walk-cluster t sound r below v .1 c) in
         let y = and-parts _ _ x in
         let y0 = and-parts _ _ (y .0) in
         let y1 = and-parts _ _ (y .1) in
@@ -82,7 +79,7 @@ module _ (t : Table) (sound : Sound t) (r : ℕ) (below : r < t .count) (near : 
     -- so it is the other star of its other star
     far-far : (v : ℕ) → Reach t r v → far t v (far t v (near v)) ≡ near v
     far-far v c =
-        same-set 64 _ _ (far-lt t v _ (reach-lt v c)) (low v c)
+        same-set 64 _ _ (far-lt t v _ (reach-lt t sound below c)) (low v c)
         (λ i l. simp (far-has sound)
         (other-other (eqb v i) (t .shares v i) (has (near v) i)
         (λ e. ap (has (near v)) (sym (eqb-true v i e)) ∙ passed v c .0) (near-within v i c)))
@@ -90,7 +87,7 @@ module _ (t : Table) (sound : Sound t) (r : ℕ) (below : r < t .count) (near : 
     -- the parts of a system of stars
     star-lt : (v : ℕ) (s : Bool) → Reach t r v → star t near v s < 2 ^ 64
     star-lt v true c = low v c
-    star-lt v false c = far-lt t v _ (reach-lt v c)
+    star-lt v false c = far-lt t v _ (reach-lt t sound below c)
 
     star-other : (v : ℕ) (s : Bool) → Reach t r v → far t v (star t near v s) ≡ star t near v (not s)
     star-other v true c = refl

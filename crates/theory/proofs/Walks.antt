@@ -1,5 +1,5 @@
 -- The walk from a baseline meets its cluster.
-use mathlib.Core.Path.{_≡_, refl, sym, subst, _∙_}
+use mathlib.Core.Path.{_≡_, sym, subst, _∙_}
 use mathlib.Core.Bool.{true}
 use mathlib.Core.List.{List}
 use mathlib.Core.Logic.{_⊎_, inl, inr, ⊎-elim, _↔_}
@@ -8,9 +8,9 @@ use native.Mathlib.Omega.{arith}
 use lib.Bits.{or-lt}
 use lib.Dec.{eqb}
 use lib.ListN.{length}
-use Rattle.std.proofs.shelf.Tests.{both-ways, cases-bool, eqb-true, eqb-false, eq-eqb, cond-both, or-cases, or-left}
+use Rattle.std.proofs.shelf.Tests.{both-ways, cases-bool, eqb-true, eqb-false, cond-both, or-cases, or-left}
 use Rattle.bitset.specs.Sets.{has, single, lowest}
-use Rattle.bitset.proofs.Members.{has-or, has-single, has-none, single-lt}
+use Rattle.bitset.proofs.Members.{has-or, has-single, single-has, has-none, single-lt}
 use Rattle.evidence.specs.Table.{Table, Sound}
 use Rattle.theory.specs.Clusters.{Reach, here, step}
 use Rattle.theory.specs.Walks.{Walk, Steps, none, more, fringe, meet, walk-on, walk, cluster}
@@ -23,7 +23,7 @@ module _ (t : Table) (sound : Sound t) (r : ℕ) (below : r < t .count) where
 
   -- the start is met
   steps-start : {steps : List (ℕ × ℕ)} {met : ℕ} → Steps t r steps met → has met r ≡ true
-  steps-start none = has-single r r ∙ eq-eqb r r refl
+  steps-start none = single-has r
   steps-start (more s m f shared) = has-or _ _ r ∙ or-left _ _ (steps-start s)
 
   -- what is met is reached

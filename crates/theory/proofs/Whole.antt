@@ -4,8 +4,9 @@ use mathlib.Core.Bool.{false, cond}
 use mathlib.Core.Logic.{_⊎_, inl, inr, ⊎-elim, _≢_}
 use Prim.Native.Nat.{ℕ, _+_, _*_, _≤_, _<_}
 use native.Mathlib.Omega.{arith}
-use Rattle.std.proofs.shelf.Tests.{cases-lt, cases-eq, cases-bool}
+use Rattle.std.proofs.shelf.Tests.{cases-lt, cases-eq}
 use Rattle.std.proofs.shelf.Ways.{tells}
+use Rattle.bitset.proofs.Members.{unless}
 use Rattle.evidence.specs.Table.{Table, Sound}
 use Rattle.theory.specs.Layout.{Ends, in-common, LayoutOn, Layout}
 use Rattle.theory.specs.Clusters.{Reach, here, step, HasLayout}
@@ -73,7 +74,7 @@ module _ (t : Table) (each : (i : ℕ) → i < t .count → HasLayout t i) where
         ∙ sym (ap (λ b. cond b 1 0) unshared)
       where
         unshared : t .shares i j ≡ false
-        unshared = ⊎-elim (λ s. absurd (ne (root-same t sound i h j (step here s)))) (λ s. s) (cases-bool (t .shares i j))
+        unshared = unless (t .shares i j) (λ s. ne (root-same t sound i h j (step here s)))
 
     -- so the ends put together are a layout of the table
     together-fits : Layout t together
@@ -95,6 +96,6 @@ cluster-layout t sound fits i h = record {
   meets = λ j k a b. fits .meets j k (reach-below t sound h a) (reach-below t sound h b);
 }
 
--- both ways
+-- so a table has a layout exactly when every cluster of it has one
 pub layout-by-clusters : Layout-by-clusters
 layout-by-clusters t sound = (λ x i h. (x .0, cluster-layout t sound (x .1) i h), whole-layout t sound)

@@ -1,12 +1,14 @@
 -- What is proved of the definitions alone.
 use Prim.Native.Nat.{ℕ, _<_}
 use mathlib.Core.Path.{_≡_}
-use mathlib.Core.Logic.{_↔_}
+use mathlib.Core.List.{List}
+use mathlib.Core.Logic.{_↔_, _≢_}
 use Rattle.std.specs.declared.option.Option.the-variants.{Some, None}
 use Rattle.evidence.specs.Table.{Table, Sound}
+use Rattle.evidence.specs.Drawing.{entries, entry, drawn, Proper}
 use Rattle.theory.specs.Layout.{Ends, Layout}
-use Rattle.theory.specs.Groups.{Chosen}
-use Rattle.theory.specs.Clusters.{HasLayout}
+use Rattle.theory.specs.Groups.{Trio, Chosen}
+use Rattle.theory.specs.Clusters.{HasLayout, Doubtful}
 use Rattle.theory.specs.Numbers.{Numbered}
 use Rattle.theory.specs.Placed.{Solved, Clash}
 use Rattle.theory.specs.Answer.{unsettled, found}
@@ -28,3 +30,13 @@ abbrev pub Search-right : Type 0
 Search-right = (t : Table) → Sound t
     → (unsettled t ≡ None → Solved t (found t .imagers) (found t .ends) (found t .doubtful))
     × ((i : ℕ) → unsettled t ≡ Some i → Clash t i)
+
+-- A proper drawing is a layout of its own table, and is found again: three different baselines that are not doubtful
+-- have a common imager in the chosen layout exactly when they have one as drawn.
+abbrev pub Drawn-back : Type 0
+Drawn-back = (bytes : List ℕ) → Proper bytes
+    → Layout (drawn bytes) (entry bytes)
+    × ((e : ℕ → Ends) → Chosen (drawn bytes) e
+    → (i j k : ℕ) → i < entries bytes → j < entries bytes → k < entries bytes → i ≢ j → j ≢ k → i ≢ k
+    → (Doubtful (drawn bytes) i → ⊥) → (Doubtful (drawn bytes) j → ⊥) → (Doubtful (drawn bytes) k → ⊥)
+    → Trio e i j k ↔ Trio (entry bytes) i j k)

@@ -1,7 +1,7 @@
 //! What is proved of the definitions alone: each theorem is the contract of a function that does nothing.
 
 ghost use Rattle.theory.specs.Rigs.{worked, Every-yields};
-ghost use Rattle.theory.specs.Theorems.{Answer-fixed, Layout-by-clusters, Search-right};
+ghost use Rattle.theory.specs.Theorems.{Answer-fixed, Drawn-back, Layout-by-clusters, Search-right};
 
 /// Two layouts of a table that are chosen and numbered tell the same ends and the same number of imagers.
 pub fn answer_fixed()
@@ -21,4 +21,10 @@ pub fn search_right()
 /// The definitions yield the outcome of every worked rig.
 pub fn rigs_worked()
     ensures { λ _. ⌜ Every-yields worked ⌝ }
+{}
+
+/// A proper drawing is a layout of its own table, and three different baselines that are not doubtful have a common imager in
+/// the chosen layout exactly when they have one as drawn.
+pub fn drawn_back()
+    ensures { λ _. ⌜ Drawn-back ⌝ }
 {}

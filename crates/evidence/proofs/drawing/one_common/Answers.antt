@@ -1,5 +1,5 @@
 use mathlib.Core.Bool.{not, _&&_}
-use mathlib.Core.Path.{_≡_, sym, ap, _∙_}
+use mathlib.Core.Path.{sym, ap, _∙_}
 use Rattle.evidence.specs.Drawing.{some-common}
 use Rattle.evidence.proofs.Drawings.{one-tells}
 use Rattle.evidence.proofs.drawing.one_common.Needs as need

@@ -1,5 +1,4 @@
-use mathlib.Core.Path.{refl, subst, sym}
-use Prim.Native.Nat.{ℕ, _<_}
+use mathlib.Core.Path.{refl}
 use native.Mathlib.Omega.{arith}
 use Rattle.evidence.proofs.Drawings.{proper-from, line-graph}
 use Rattle.evidence.proofs.drawing.Drawing.is_proper.Needs as need

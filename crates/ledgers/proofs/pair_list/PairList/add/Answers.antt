@@ -1,4 +1,4 @@
-use mathlib.Core.Path.{_≡_, refl, sym, ap}
+use mathlib.Core.Path.{refl, sym, ap}
 use mathlib.Core.Bool.{true, not, Bool·beq}
 use native.Mathlib.Omega.{arith}
 use lib.ListN.{length-set}

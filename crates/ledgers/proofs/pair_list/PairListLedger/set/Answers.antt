@@ -1,9 +1,9 @@
-use mathlib.Core.Path.{_≡_, refl, sym, ap, _∙_}
-use mathlib.Core.Bool.{true, not, Bool·beq}
+use mathlib.Core.Path.{refl, sym, ap, _∙_}
+use mathlib.Core.Bool.{not}
 use mathlib.Core.Logic.{inl, inr}
 use Rattle.evidence.proofs.Puts.{put-same}
 use Rattle.evidence.proofs.Questions.{set-room}
-use Rattle.ledgers.specs.Listing.{listed, listing}
+use Rattle.ledgers.specs.Listing.{listing}
 use Rattle.ledgers.proofs.Kept.{sound-of}
 use Rattle.ledgers.proofs.Listed.{listed-at}
 use Rattle.ledgers.proofs.Tests.{beq-same}
