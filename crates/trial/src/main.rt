@@ -1,41 +1,57 @@
-//! Reads a rig's drawing from standard input, one baseline to a line, and prints which baselines share.
+//! Takes a drawing through one task from beginning to end, and then puts the library through families of trials.
 
+mod by_definition;
+mod families;
+mod random;
 mod reading;
+mod rig;
+mod worked;
 
-use evidence::Drawing;
-use evidence::DrawingEvidence;
-use evidence::Evidence;
+use evidence::Refusal;
+use evidence::RefusalDebug;
+use families::Score;
 use std::error::AnyError;
 use std::io::Read;
 
-// Prints the row of baseline i, 1 where it shares and a point where it does not, and answers how many it shares with.
-fn print_row(rt: &LibcRuntime, rig: &Drawing, i: usize) -> Result<usize, AnyError> {
-    let mut sharing = 0usize;
-    print!(rt, "{i:>2}:")?;
-    for j in 0..rig.count() {
-        let shares = rig.shares(i, j);
-        rt.print(if shares { " 1" } else { " ." })?;
-        sharing = sharing.saturating_add(usize::from(shares));
-    }
-    rt.println("")?;
-    Ok(sharing)
+// Prints how many trials of a family came out right.
+fn print_score(rt: &LibcRuntime, family: &str, score: Score) -> Result<(), AnyError> {
+    let right = score.right;
+    let trials = score.trials;
+    println!(rt, "{family}: {right} of {trials}")?;
+    Ok(())
 }
 
-// Prints the table of sharing of a drawing.
-fn print_table(rt: &LibcRuntime, rig: &Drawing) -> Result<(), AnyError> {
-    let count = rig.count();
-    let kind = if rig.is_proper() {
-        "a proper drawing"
-    } else {
-        "a drawing that is not proper"
-    };
-    println!(rt, "{count} baselines, {kind}")?;
-    let mut sharing = 0usize;
-    for i in 0..count {
-        sharing = sharing.saturating_add(print_row(rt, rig, i)?);
+// A refusal where none is expected ends the program.
+fn unrefused<T>(answer: Result<T, Refusal>) -> Result<T, AnyError> {
+    match answer {
+        Ok(x) => Ok(x),
+        Err(_) => Err("a ledger refused".into()),
     }
-    let pairs = sharing / 2;
-    println!(rt, "{pairs} pairs share an imager")?;
+}
+
+fn run_families(rt: &LibcRuntime) -> Result<(), AnyError> {
+    print_score(rt, "worked rigs, five ways each", unrefused(worked::run())?)?;
+    print_score(rt, "odd cases", unrefused(families::odd_cases())?)?;
+    print_score(
+        rt,
+        "random drawings placed back",
+        families::random_drawings(7, 2000),
+    )?;
+    print_score(
+        rt,
+        "damaged tables by definition",
+        unrefused(families::damaged_tables(11, 2000))?,
+    )?;
+    print_score(
+        rt,
+        "all tables of four by definition",
+        unrefused(families::all_tables(4, 6))?,
+    )?;
+    print_score(
+        rt,
+        "all tables of five by definition",
+        unrefused(families::all_tables(5, 10))?,
+    )?;
     Ok(())
 }
 
@@ -43,15 +59,8 @@ fn run(rt: &LibcRuntime) -> Result<(), AnyError> {
     let mut text = Vec::new(rt.alloc());
     rt.stdin().read_to_end(&mut text)?;
     let bytes = reading::drawing_of(rt, text.as_slice())?;
-    if bytes.len() > 128 {
-        rt.println("baselines past the 64th are not read")?;
-    }
-    print_table(
-        rt,
-        &Drawing {
-            bytes: bytes.as_slice(),
-        },
-    )
+    rig::print_rig(rt, bytes.as_slice())?;
+    run_families(rt)
 }
 
 fn main(rt: LibcRuntime) -> Result<(), AnyError> {

@@ -1,0 +1,3 @@
+-- What the C entry asks, answers and leaves.
+pub mod Square
+pub mod Entered
