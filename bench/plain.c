@@ -133,8 +133,7 @@ uint64_t plain_place_square(uint64_t n, const uint8_t *square, size_t square_len
     g.placed = g.doubt = 0;
     for (uint64_t i = 0; i < n; i++) {
         g.row[i] = 0;
-        for (uint64_t j = 0; j < n; j++)
-            if (square[i * n + j]) g.row[i] |= one((int)j);
+        for (uint64_t j = 0; j < n; j++) g.row[i] |= (uint64_t)square[i * n + j] << j;
     }
     for (int r = 0; r < g.n; r++)
         if (!(g.placed & one(r)) && !settle(&g, r)) return 18 + 256 * (uint64_t)r;
