@@ -30,9 +30,11 @@ use Rattle.layout.proofs.Steps.{walked-reach}
 -- ---- near stars that are equal on a cluster settle it alike
 
 module _ (t : Table) (r : ℕ) (near near′ : ℕ → ℕ) (same : (v : ℕ) → Reach t r v → near′ v ≡ near v) where
+  -- the stars of a baseline are those it had
   star-alike : (v : ℕ) (s : Bool) → Reach t r v → star t near′ v s ≡ star t near v s
   star-alike v s c = ap (λ a. cond s a (far t v a)) (same v c)
 
+  -- so they are a system of stars, if they were one
   stars-alike : Stars t (Reach t r) (star t near) → Stars t (Reach t r) (star t near′)
   stars-alike good = record {
     other = λ v s c. ap (far t v) (star-alike v s c) ∙ good .other v s c ∙ sym (star-alike v (not s) c);
@@ -44,6 +46,7 @@ module _ (t : Table) (r : ℕ) (near near′ : ℕ → ℕ) (same : (v : ℕ) �
     small = λ v s c. subst (λ a. a < 2 ^ 64) (sym (star-alike v s c)) (good .small v s c);
   }
 
+  -- and they settle the cluster as they did
   settled-alike : {doubtful : Bool} → Settled t r near doubtful → Settled t r near′ doubtful
   settled-alike s = record {
     start = s .start;

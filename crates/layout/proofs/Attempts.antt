@@ -25,6 +25,7 @@ module _ (t : Table) (sound : Sound t) (r : ℕ) (below : r < t .count) (cross :
   pub near-small : (v : ℕ) → Reach t r v → near v < 2 ^ 64
   near-small v c = let few = sound .few in handed-lt sound (first-lt t sound r cross (omega arith)) v (handed v c)
 
+  -- the root has the first star
   pub near-first : near r ≡ first t r cross
   near-first = handed-start (handed r here)
 

@@ -1,6 +1,6 @@
 -- A loop over the members of a set, the lowest first.
 use mathlib.Core.Path.{_≡_, refl, sym, ap, _∙_}
-use mathlib.Core.Bool.{Bool, true, false, not, _&&_, _||_}
+use mathlib.Core.Bool.{Bool, true, false, not, _&&_, _||_, and-true, and-false}
 use mathlib.Core.Logic.{_⊎_, inl, inr, ⊎-elim}
 use Prim.Native.Nat.{ℕ, _^_, _<_}
 use native.Mathlib.Omega.{arith}
@@ -11,6 +11,13 @@ use Rattle.std.proofs.shelf.Ways.{tells}
 use Rattle.bitset.specs.Sets.{has, single, lowest, Lowest}
 use Rattle.bitset.proofs.Members.{not-empty, has-or, has-single, same-set, single-lt, lowest-is}
 use Rattle.theory.proofs.Counts.{how-many, how-many-put}
+
+-- a member that is taken out is gone, and the others stay
+pub gone : (b c : Bool) → c ≡ true → (b && not c) ≡ false
+gone b c h = ap (λ x. b && not x) h ∙ and-false b
+
+pub stays : (b c : Bool) → c ≡ false → (b && not c) ≡ b
+stays b c h = ap (λ x. b && not x) h ∙ and-true b
 
 -- Of the members of a set, those that are left; the others have passed a test.
 pub record Each (test : ℕ → Bool) (all rest : ℕ) : Type 0 where
@@ -38,14 +45,11 @@ module _ (rest rest′ v : ℕ) (is : (k : ℕ) → has rest′ k ≡ (has rest 
   -- fewer are left
   pub each-falls : rest < 2 ^ 64 → rest′ < 2 ^ 64 → v < 64 → has rest v ≡ true → how-many (has rest′) 64 < how-many (has rest) 64
   each-falls l l′ lv h =
-      let gone : has rest′ v ≡ false = is v ∙ out (has rest v) (eqb v v) (eq-eqb v v refl) in
+      let out : has rest′ v ≡ false = is v ∙ gone (has rest v) (eqb v v) (eq-eqb v v refl) in
       let back : bitOr rest′ (single v) ≡ rest =
       same-set 64 _ _ (or-lt 64 _ _ l′ (single-lt 64 v lv)) l (λ k _. has-or rest′ (single v) k ∙ whole k (cases-eq k v)) in
-      omega (arith, how-many-put rest′ v 64 lv gone, ap (λ m. how-many (has m) 64) back)
+      omega (arith, how-many-put rest′ v 64 lv out, ap (λ m. how-many (has m) 64) back)
     where
-      out : (x y : Bool) → y ≡ true → (x && not y) ≡ false
-      out x y e = grind (arith, tells)
-
       whole : (k : ℕ) → (k ≡ v) ⊎ (k ≡ v → ⊥) → (has rest′ k || has (single v) k) ≡ has rest k
       whole k (inl e) = let r : has rest k ≡ true = ap (has rest) e ∙ h in rw (is k, has-single v k, r) (grind (arith, tells))
       whole k (inr ne) = rw (is k, has-single v k) (grind (arith, tells))

@@ -1,6 +1,6 @@
 -- The first star of a start, as it is computed, and tests that a start which passes does not fail.
 use mathlib.Core.Path.{_≡_, refl, sym, ap, ap₂, _∙_}
-use mathlib.Core.Bool.{Bool, true, false, not, _&&_, _||_}
+use mathlib.Core.Bool.{Bool, true, false, not, _&&_, _||_, and-true}
 use mathlib.Core.Logic.{_⊎_, inl, inr, _≢_}
 use Prim.Native.Nat.{ℕ, _^_, _<_}
 use native.Mathlib.Omega.{arith}
@@ -23,10 +23,6 @@ use Rattle.layout.proofs.Tells.{put-is}
 -- without none, a set stays as it is
 pub minus-none : (m : ℕ) → m < 2 ^ 64 → m ≡ minus m 0
 minus-none m l = same-set 64 _ _ l (minus-lt 64 m 0 l) (λ k _. sym (has-minus m 0 k ∙ ap (λ b. has m k && not b) (has-none k) ∙ and-true (has m k)))
-  where
-    and-true : (b : Bool) → (b && true) ≡ b
-    and-true true = refl
-    and-true false = refl
 
 -- a set without x
 pub minus-one : (m m′ x : ℕ) → m < 2 ^ 64 → m′ < 2 ^ 64 → ((k : ℕ) → has m′ k ≡ (has m k && not (eqb k x))) → m′ ≡ minus m (single x)
@@ -43,6 +39,7 @@ module _ (t : Table) (r s : ℕ) where
   unfolding between
   between-none e = e ∙ sym (ap (λ m. bitAnd m (row t (lowest (row t r)))) e)
 
+  -- and where some do
   pub between-some : s ≡ lowest (row t r) → bitAnd (row t r) (row t s) ≡ between t r
   unfolding between
   between-some e = ap (λ x. bitAnd (row t r) (row t x)) e
@@ -52,6 +49,7 @@ module _ (t : Table) (r s : ℕ) where
   unfolding first
   first-alone x l e = put-is 0 r l ∙ sym (cond-true _ _ _ (eq-eqb _ _ e))
 
+  -- and with others
   pub first-with : (x : Option ℕ) → r < 64 → s < 64 → row t r ≢ 0 → s ≡ lowest (row t r)
       → bitOr (put (put 0 r) s) (minus (between t r) (crossed x)) ≡ first t r x
   unfolding first

@@ -1,6 +1,6 @@
 -- A number is given to the baselines of a star, one after the other.
 use mathlib.Core.Path.{_≡_, refl, sym, ap, ap₂, _∙_}
-use mathlib.Core.Bool.{Bool, true, false, cond, not, _&&_}
+use mathlib.Core.Bool.{Bool, true, false, cond, not, _&&_, and-true}
 use mathlib.Core.Logic.{⊎-elim}
 use Prim.Native.Nat.{ℕ, _^_, _<_}
 use native.Mathlib.Omega.{arith}
@@ -19,7 +19,7 @@ use Rattle.theory.specs.Record.{blank}
 use Rattle.theory.specs.Imagers.{second}
 use Rattle.layout.specs.declared.numbering.Numbers.{Numbers}
 use Rattle.layout.specs.Numbers.{given}
-use Rattle.layout.proofs.Each.{lowest-unique}
+use Rattle.layout.proofs.Each.{stays, lowest-unique}
 
 -- ---- the second baseline of a star
 
@@ -92,8 +92,8 @@ giving-more before star rest rest′ now v e low l is new g = record {
         ∙ ap (λ b. cond (b && false) (given (getD (before .entries) v blank) (has (before .begun .bits) v) (before .next)) (getD (before .entries) v blank))
         (g .within v (low .member))
 
-    gone : has rest′ v ≡ false
-    gone = is v ∙ ap₂ (λ a b. a && not b) (low .member) (eq-eqb v v refl)
+    out : has rest′ v ≡ false
+    out = is v ∙ ap₂ (λ a b. a && not b) (low .member) (eq-eqb v v refl)
 
     here : (w : ℕ) → w ≡ v → getD (set (now .entries) v e) w blank ≡ so-far before star rest′ w
     here w h =
@@ -102,7 +102,7 @@ giving-more before star rest rest′ now v e low l is new g = record {
         ap (λ i. getD (set (now .entries) v e) i blank) h ∙ getD-set-same (now .entries) v e blank (omega arith) ∙ new
         ∙ ap (λ x. given x (has (now .begun .bits) v) (now .next)) was
         ∙ ap₂ (λ m n. given (getD (before .entries) v blank) (has m v) n) (g .begun) (g .next)
-        ∙ sym (ap₂ (λ a b. cond (a && not b) (given (getD (before .entries) v blank) (has (before .begun .bits) v) (before .next)) (getD (before .entries) v blank)) (g .within v (low .member)) gone)
+        ∙ sym (ap₂ (λ a b. cond (a && not b) (given (getD (before .entries) v blank) (has (before .begun .bits) v) (before .next)) (getD (before .entries) v blank)) (g .within v (low .member)) out)
         ∙ ap (so-far before star rest′) (sym h)
 
     there : (w : ℕ) → (w ≡ v → ⊥) → getD (set (now .entries) v e) w blank ≡ so-far before star rest′ w
@@ -110,10 +110,6 @@ giving-more before star rest rest′ now v e low l is new g = record {
         getD-set-other (now .entries) v w e blank ne ∙ g .entries w
         ∙ ap (λ b. cond (has star w && not b) (given (getD (before .entries) w blank) (has (before .begun .bits) w) (before .next)) (getD (before .entries) w blank))
         (sym (is w ∙ stays (has rest w) (eqb w v) (ne-eqb w v ne)))
-      where
-        stays : (a b : Bool) → b ≡ false → (a && not b) ≡ a
-        stays true b h = ap not h
-        stays false b h = refl
 
 -- all have it
 pub giving-all : (before : Numbers) (star rest : ℕ) (now : Numbers) → rest ≡ 0 → Giving before star rest now
@@ -123,7 +119,3 @@ giving-all before star rest now z g w =
     g .entries w
     ∙ ap (λ b. cond b (given (getD (before .entries) w blank) (has (before .begun .bits) w) (before .next)) (getD (before .entries) w blank))
     (ap (λ m. has star w && not (has m w)) z ∙ ap (λ b. has star w && not b) (has-none w) ∙ and-true (has star w))
-  where
-    and-true : (b : Bool) → (b && true) ≡ b
-    and-true true = refl
-    and-true false = refl

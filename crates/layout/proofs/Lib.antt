@@ -13,5 +13,7 @@ pub mod Preferred
 -- All clusters, the numbers of the imagers, and the answer.
 pub mod AllSettled
 pub mod Giving
+pub mod Marks
 pub mod Numbered
+pub mod Turns
 pub mod Answer

@@ -67,14 +67,17 @@ pub record Loaded (t : Table) (rows : List BaselineSet) (n : ℕ) : Type 0 where
   pub before : (i : ℕ) → i < n → bits-at rows i ≡ row t i
   pub after : (i : ℕ) → n ≤ i → bits-at rows i ≡ 0
 
+-- every set of an array of empty sets is empty
 bits-blank : (n i : ℕ) (x : BaselineSet) → x .bits ≡ 0 → bits-at (replicate n x) i ≡ 0
 bits-blank zero i x e = refl
 bits-blank (suc n) zero x e = e
 bits-blank (suc n) (suc i) x e = bits-blank n i x e
 
+-- none is loaded
 pub loaded-none : (t : Table) (x : BaselineSet) → x .bits ≡ 0 → Loaded t (replicate 64 x) 0
 loaded-none t x e = record { long = refl; before = λ i l. absurd (omega arith); after = λ i _. bits-blank 64 i x e }
 
+-- one row more
 pub loaded-more : (t : Table) (rows : List BaselineSet) (n : ℕ) (x : BaselineSet) → n < 64 → x .bits ≡ row t n → Loaded t rows n
     → Loaded t (set rows n x) (n + 1)
 loaded-more t rows n x l e was = record {

@@ -18,7 +18,7 @@ use Rattle.theory.proofs.Places.{one}
 use Rattle.theory.proofs.Firsts.{Start}
 use Rattle.layout.specs.declared.order.Starts.{Starts}
 use Rattle.layout.specs.Order.{Next, Between, passing-among, left, Found}
-use Rattle.layout.proofs.Each.{each-falls}
+use Rattle.layout.proofs.Each.{gone, stays, each-falls}
 
 -- a set without one member is a set of baselines
 drop-lt : (m x : ℕ) → m < 2 ^ 64 → drop m x < 2 ^ 64
@@ -27,15 +27,6 @@ drop-lt m x l = cond-both _ _ _ (λ a. a < 2 ^ 64) (λ _. minus-lt 64 m (single 
 -- How many starts are left.
 abbrev pub starts-left : Starts → ℕ
 starts-left s = one (s .plain) + how-many (has (s .crosses .bits)) 64
-
--- a member that is taken out, and one that stays
-out : (a b : Bool) → b ≡ true → (a && not b) ≡ false
-out true b h = ap not h
-out false b h = refl
-
-stay : (a b : Bool) → b ≡ false → (a && not b) ≡ a
-stay true b h = ap not h
-stay false b h = refl
 
 -- A start, if it passes, before the others.
 abbrev pub tried : Table → ℕ → Option ℕ → List (Option ℕ) → List (Option ℕ)
@@ -74,8 +65,8 @@ module _ (t : Table) (r : ℕ) where
       ⊎-elim
       (λ e. among-cross m k (ap (has m) e ∙ high .member)
       ∙ ap₂ (λ i others. tried t r (Some i) others) e
-      (among-alike m (drop m x) k (λ i h. sym (has-drop m x i l ∙ stay (has m i) (eqb i x) (ne-eqb i x (λ p. omega arith))))
-      ∙ sym (among-skip (drop m x) k (has-drop m x k l ∙ out (has m k) (eqb k x) (eq-eqb k x e)))))
+      (among-alike m (drop m x) k (λ i h. sym (has-drop m x i l ∙ stays (has m i) (eqb i x) (ne-eqb i x (λ p. omega arith))))
+      ∙ sym (among-skip (drop m x) k (has-drop m x k l ∙ gone (has m k) (eqb k x) (eq-eqb k x e)))))
       (λ ne. let above : x < k = omega arith in
       let off = high .greatest k above in
       among-skip m k off ∙ among-highest m x l high k above

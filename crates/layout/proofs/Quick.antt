@@ -37,8 +37,7 @@ inside x r a h k = grind (arith, tells)
 inside-far : (x r a : Bool) → (x || (r && not a)) ≡ true → (x || r) ≡ true
 inside-far x r a h = grind (arith, tells)
 
--- ---- a star is agreed on where each baseline of it has it
-
+-- a star is agreed on just where each baseline of it has it
 pub agreed-tells : (t : Table) (near : ℕ → ℕ) (a : ℕ) → (agreed t near a ≡ true) ↔ ((w : ℕ) → w < 64 → has a w ≡ true → star-of t near a w ≡ true)
 unfolding agreed star-of
 agreed-tells t near a = (
@@ -56,9 +55,11 @@ agreed-quick t near v a l h k =
     (λ _. agreed-tells t near a .0 k (lowest a) (low .below) (low .member))
 
 module _ (t : Table) (sound : Sound t) (r : ℕ) (below : r < t .count) (near : ℕ → ℕ) (small : (v : ℕ) → Reach t r v → near v < 2 ^ 64) where
+  -- the baselines of the cluster are below 64
   reach-lt : (v : ℕ) → Reach t r v → v < 64
   reach-lt v c = omega (arith, sound .few, reach-below t sound below c)
 
+  -- their stars are sets of baselines
   star-small : (v : ℕ) (s : Bool) → Reach t r v → star t near v s < 2 ^ 64
   star-small v true c = small v c
   star-small v false c = far-lt t v _ (reach-lt v c)
@@ -69,9 +70,11 @@ module _ (t : Table) (sound : Sound t) (r : ℕ) (below : r < t .count) (near : 
   star-self v true h = and-parts _ _ h .0
   star-self v false h = far-has sound v (near v) v ∙ or-left _ _ (eq-eqb v v refl)
 
+  -- what of the near star of v is neither v nor shares with v
   other-has : (v w : ℕ) → has (minus (near v) (bitOr (single v) (row t v))) w ≡ (has (near v) w && not (eqb v w || t .shares v w))
   other-has v w = simp (has-minus, has-or, has-single, row-has t sound v w)
 
+  -- so what is in a star of v is v or shares with v
   star-inside : (v : ℕ) (s : Bool) (w : ℕ) → near-fits t near v ≡ true → has (star t near v s) w ≡ true → (eqb v w || t .shares v w) ≡ true
   unfolding near-fits
   star-inside v true w h k =
@@ -136,6 +139,7 @@ module _ (t : Table) (sound : Sound t) (r : ℕ) (below : r < t .count) (near : 
 
   -- ---- and the other way round
 
+  -- a system of stars passes the quick test everywhere
   pub stars-quick : Stars t (Reach t r) (star t near) → (v : ℕ) → Reach t r v → quick-at t near v ≡ true
   unfolding verified fits-at near-fits quick-at
   stars-quick good v c =

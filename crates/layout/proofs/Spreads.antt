@@ -31,6 +31,7 @@ use Rattle.layout.proofs.Steps.{reverse-push}
 
 -- ---- the steps by their places
 
+-- the two baselines of each step share
 all-share : {t : Table} {r : ℕ} {steps : List (ℕ × ℕ)} {met : ℕ} → Steps t r steps met → All (λ s. t .shares (s .0) (s .1) ≡ true) steps
 all-share none = tt
 all-share (more s m f share) = (share, all-share s)
@@ -70,20 +71,25 @@ pub record Spreading (t : Table) (w : Walk) (was now : List BaselineSet) (k : �
   pub long : length now ≡ 64
   pub is : (v : ℕ) → bits-at now v ≡ spread-on t (bits-at was) (reverse (take k (w .steps))) v
 
+-- no step was taken
 pub spreading-none : (t : Table) (w : Walk) (was : List BaselineSet) → length was ≡ 64 → Spreading t w was was 0
 unfolding spread-on
 spreading-none t w was long = record { long = long; is = λ v. refl }
 
 module _ (t : Table) (w : Walk) (was now : List BaselineSet) (k : ℕ) (x : BaselineSet) (l : k < length (w .steps)) (so : Spreading t w was now k) where
+  -- the step goes from p
   abbrev p : ℕ
   p = getD (w .steps) k (0, 0) .0
 
+  -- to v
   abbrev v : ℕ
   v = getD (w .steps) k (0, 0) .1
 
+  -- after these steps
   abbrev steps : List (ℕ × ℕ)
   steps = reverse (take k (w .steps))
 
+  -- of which it is the newest
   more-steps : reverse (take (k + 1) (w .steps)) ≡ getD (w .steps) k (0, 0) ∷ steps
   more-steps = ap reverse (take-more (w .steps) k (0, 0) l) ∙ reverse-push (take k (w .steps)) (getD (w .steps) k (0, 0))
 
@@ -142,15 +148,19 @@ handed-alike t r a near near′ same v (hand {p} h share k) =
 
 module _ (x : Rows) (w : Walk) (walked : Walked (told x) w) (first : BaselineSet) (was now : List BaselineSet) (k : ℕ)
     (long : length was ≡ 64) (all : w .taken ≤ k) (so : Spreading (told x) w (set was (w .root) first) now k) (upto : k ≤ w .taken) where
+  -- the table
   abbrev t : Table
   t = told x
 
+  -- the root
   abbrev r : ℕ
   r = w .root
 
+  -- the near stars when the spread begins
   abbrev begun : ℕ → ℕ
   begun = bits-at (set was r first)
 
+  -- the near stars when it ends
   is : (v : ℕ) → bits-at now v ≡ spread-on t begun (steps-of w) v
   is v = let e : k ≡ w .taken = omega arith in so .is v ∙ ap (λ n. spread-on t begun (reverse (take n (w .steps))) v) e
 

@@ -12,9 +12,11 @@ use Rattle.layout.specs.declared.rows.Rows.{Rows}
 use Rattle.layout.specs.Tables.{bits-at}
 use Rattle.layout.specs.Told.{told}
 
+-- the table is sound
 pub sound-told : (x : Rows) → Sound (told x)
 sound-told x = record { few = x .few; alike = x .alike; apart = x .apart; within = x .within }
 
+-- each row is that of the table
 pub row-told : (x : Rows) (i : ℕ) → bits-at (x .rows) i ≡ row (told x) i
 row-told x i = same-set 64 _ _ (x .small i) (row-lt (told x) i) (λ j _. sym (row-has (told x) (sound-told x) i j))
 

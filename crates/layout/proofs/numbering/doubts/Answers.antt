@@ -6,7 +6,7 @@ use lib.ListN.{getD}
 use Rattle.bitset.specs.Sets.{has}
 use Rattle.theory.specs.Record.{blank}
 use Rattle.layout.specs.Numbers.{unnumbered}
-use Rattle.layout.proofs.Numbered.{marked-none, marked-more}
+use Rattle.layout.proofs.Marks.{marked-none, marked-more}
 use Rattle.layout.proofs.numbering.doubts.Needs as need
 
 pub loop-v-holds : need.loop-v-holds

@@ -1,4 +1,4 @@
-use Rattle.layout.proofs.Numbered.{Marked}
+use Rattle.layout.proofs.Marks.{Marked}
 use Rattle.layout.proofs.numbering.doubts.Given as given
 
 abbrev pub Inv-loop-v : given.InvT-loop-v

@@ -4,7 +4,8 @@ use lib.ListN.{getD}
 use Rattle.layout.specs.Tables.{none, bits-at}
 use Rattle.layout.specs.Told.{told}
 use Rattle.layout.proofs.Tells.{sound-told}
-use Rattle.layout.proofs.Numbered.{marks, begins-ordered, numbering-none, numbering-first, numbering-second, numbering-all, room-first, room-second}
+use Rattle.layout.proofs.Marks.{marks}
+use Rattle.layout.proofs.Turns.{begins-ordered, numbering-none, numbering-first, numbering-second, numbering-all, room-first, room-second}
 use Rattle.layout.proofs.numbering.number.Needs as need
 
 pub loop-v-holds : need.loop-v-holds

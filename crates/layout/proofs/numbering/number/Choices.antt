@@ -1,7 +1,8 @@
 use Rattle.theory.specs.Imagers.{imagers}
 use Rattle.layout.specs.Tables.{bits-at}
 use Rattle.layout.specs.Told.{told}
-use Rattle.layout.proofs.Numbered.{marks, Numbering}
+use Rattle.layout.proofs.Marks.{marks}
+use Rattle.layout.proofs.Numbered.{Numbering}
 use Rattle.layout.proofs.numbering.number.Given as given
 
 abbrev pub Inv-loop-v : given.InvT-loop-v
