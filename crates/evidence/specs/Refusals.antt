@@ -5,16 +5,21 @@ use Prim.Native.Nat.{ℕ}
 use Rattle.std.specs.declared.option.Option.{Option}
 use Rattle.std.specs.declared.option.Option.the-variants.{Some, None}
 use Rattle.evidence.specs.declared.refusal.Refusal.{Refusal}
-use Rattle.evidence.specs.declared.refusal.Refusal.the-variants.{ManyBaselines, SquareSize, SquareByte, Full, PastCount, SameBaseline, ManyPairs, NoLayout, NoRoom}
+use Rattle.evidence.specs.declared.refusal.Refusal.the-variants.{ManyBaselines, SquareSize, SquareByte, IssueOpen, NoSpan, Full, PastCount, SameBaseline, ManyPairs, Unresolved, ManyIssues, WrongPaper, NoLayout, NoRoom}
 
 abbrev pub number-of : Refusal → ℕ
 number-of ManyBaselines = 6
 number-of SquareSize = 7
 number-of (SquareByte place) = 8
+number-of IssueOpen = 9
+number-of NoSpan = 10
 number-of Full = 11
 number-of PastCount = 12
 number-of SameBaseline = 13
 number-of ManyPairs = 14
+number-of Unresolved = 15
+number-of ManyIssues = 16
+number-of WrongPaper = 17
 number-of (NoLayout baseline) = 18
 number-of (NoRoom bytes) = 19
 
@@ -23,10 +28,15 @@ abbrev pub detail-of : Refusal → ℕ
 detail-of ManyBaselines = 0
 detail-of SquareSize = 0
 detail-of (SquareByte place) = place
+detail-of IssueOpen = 0
+detail-of NoSpan = 0
 detail-of Full = 0
 detail-of PastCount = 0
 detail-of SameBaseline = 0
 detail-of ManyPairs = 0
+detail-of Unresolved = 0
+detail-of ManyIssues = 0
+detail-of WrongPaper = 0
 detail-of (NoLayout baseline) = baseline
 detail-of (NoRoom bytes) = bytes
 

@@ -12,6 +12,10 @@ pub enum Refusal {
     SquareSize,
     /// 8: the byte at this place of a square is not 0 or 1, not zero on the diagonal, or not equal to its mirror.
     SquareByte(usize),
+    /// 9: an issue is open.
+    IssueOpen,
+    /// 10: a span is 0.
+    NoSpan,
     /// 11: there are 64 baselines already.
     Full,
     /// 12: a number is not below the count.
@@ -20,6 +24,12 @@ pub enum Refusal {
     SameBaseline,
     /// 14: there is no room for another sharing pair.
     ManyPairs,
+    /// 15: the survey is not resolved.
+    Unresolved,
+    /// 16: 9,999 issues were begun already.
+    ManyIssues,
+    /// 17: a paper is not that of the open issue at its stage.
+    WrongPaper,
     /// 18: the cluster of this baseline, the lowest such, has no layout.
     NoLayout(usize),
     /// 19: there is no room for so many bytes.
@@ -35,10 +45,15 @@ impl Refusal {
             Refusal::ManyBaselines => 6,
             Refusal::SquareSize => 7,
             Refusal::SquareByte(_) => 8,
+            Refusal::IssueOpen => 9,
+            Refusal::NoSpan => 10,
             Refusal::Full => 11,
             Refusal::PastCount => 12,
             Refusal::SameBaseline => 13,
             Refusal::ManyPairs => 14,
+            Refusal::Unresolved => 15,
+            Refusal::ManyIssues => 16,
+            Refusal::WrongPaper => 17,
             Refusal::NoLayout(_) => 18,
             Refusal::NoRoom(_) => 19,
         }
@@ -54,10 +69,15 @@ impl Refusal {
             Refusal::NoRoom(bytes) => bytes,
             Refusal::ManyBaselines
             | Refusal::SquareSize
+            | Refusal::IssueOpen
+            | Refusal::NoSpan
             | Refusal::Full
             | Refusal::PastCount
             | Refusal::SameBaseline
-            | Refusal::ManyPairs => 0,
+            | Refusal::ManyPairs
+            | Refusal::Unresolved
+            | Refusal::ManyIssues
+            | Refusal::WrongPaper => 0,
         }
     }
 }
