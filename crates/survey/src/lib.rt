@@ -16,3 +16,6 @@ pub use papers::Paper;
 pub use survey::Resolution;
 pub use survey::Stage;
 pub use survey::Survey;
+
+#[cfg(test)]
+mod tests;
