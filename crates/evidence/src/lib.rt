@@ -1,5 +1,7 @@
 //! Evidence of which baselines share an imager: what it means, its kinds, and the ledgers' trait.
 
+#![tactic(auto)]
+
 // The meaning of evidence, and of evidence that can be written.
 mod evidence;
 mod ledger;

@@ -1,5 +1,7 @@
 //! The files that a survey issues, written byte by byte, and the fields of lines that are read.
 
+#![tactic(auto)]
+
 // Bytes put into a buffer, and whether there is room for them.
 mod put;
 mod room;

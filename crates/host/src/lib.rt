@@ -1,5 +1,7 @@
 //! The C entry: places a square of bytes. docs/c-host.md tells how a C program links it.
 
+#![tactic(auto)]
+
 mod entry;
 mod output;
 mod square_form;

@@ -1,5 +1,7 @@
 //! The layout of a table: which two imagers each baseline has, and which baselines are doubtful.
 
+#![tactic(auto)]
+
 // The table as rows, and the stars that they tell.
 mod load;
 mod rows;

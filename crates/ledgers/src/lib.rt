@@ -1,5 +1,7 @@
 //! The ledgers: a grid of words, and a list of pairs.
 
+#![tactic(auto)]
+
 mod pair_list;
 mod word_grid;
 

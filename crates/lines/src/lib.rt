@@ -1,5 +1,7 @@
 //! The text protocol of a survey: a line in, a reply out.
 
+#![tactic(auto)]
+
 // Why a line is refused, and by which layer.
 mod fault;
 

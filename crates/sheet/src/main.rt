@@ -1,5 +1,7 @@
 //! The fitters' program: a sheet of lines on standard input, the replies on standard output.
 
+#![tactic(auto)]
+
 use anyhow::anyhow;
 use ledgers::WordGrid;
 use lines::{line, line_end};

@@ -1,5 +1,7 @@
 //! A survey over any ledger: what is enlisted and marked in it, how it is resolved, and the issues that it gives out.
 
+#![tactic(auto)]
+
 // The papers of an issue.
 mod closing;
 mod opening;

@@ -1,5 +1,7 @@
 //! Surveys put to the test over both ledgers: the worked rigs, marks, and issues with their papers.
 
+#![tactic(auto)]
+
 // Papers in tests.
 #[cfg(test)]
 mod holding;

@@ -1,5 +1,7 @@
 //! What a layout is, and why the search for one is right. The definitions are in specs/, the proofs in proofs/.
 
+#![tactic(auto)]
+
 mod record;
 mod theorems;
 

@@ -1,5 +1,7 @@
 //! Takes a drawing through one task from beginning to end, and then puts the library through families of trials.
 
+#![tactic(auto)]
+
 mod by_definition;
 mod families;
 mod random;

@@ -1,5 +1,7 @@
 //! The law of surveys applied: what a ledger of any kind answers to one list of calls, and the bytes of the two files.
 
+#![tactic(auto)]
+
 // What the calls answer.
 mod answers;
 

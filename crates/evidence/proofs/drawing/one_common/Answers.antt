@@ -7,5 +7,5 @@ pub returns : goal.returns
 returns c =
     let d = c.args.d in
     let e = c.args.e in
-    let same = ap (λ b. some_common d e && not b) c.same-two.ensures in
+    let same = ap (λ b. some_common d e && not b) c.same_two.ensures in
     record { test = same; fact = ((λ h. (one_tells d e).0 (sym same ∙ h)), (λ x. same ∙ (one_tells d e).1 x)) }

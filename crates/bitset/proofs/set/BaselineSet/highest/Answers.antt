@@ -4,4 +4,4 @@ use Rattle.bitset.proofs.Members.{highest_is}
 use Rattle.bitset.proofs.set.BaselineSet.highest.Goals as goal
 
 pub returns : goal.returns
-returns c = highest_is c.args.self.bits (λ e. both_ways c.is-empty.result c.if-is-empty.false (c.is-empty.ensures ∙ eq-eqb _ _ e)) (search rules)
+returns c = highest_is c.args.self.bits (λ e. both_ways c.is_empty.result c.if-is_empty.false (c.is_empty.ensures ∙ eq-eqb _ _ e)) (search rules)
