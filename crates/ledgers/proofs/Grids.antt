@@ -13,18 +13,27 @@ use Rattle.evidence.proofs.PairCounts.{one_if, pairs_none, pairs_grow, pairs_put
 use Rattle.evidence.proofs.Puts.{put_sound}
 use Rattle.ledgers.specs.Grid.{none, grid}
 
--- what a grid keeps, in the order of its ghost fields
+-- what a grid keeps, by its ghost fields
 abbrev pub Kept : List BaselineSet → ℕ → ℕ → Type 0
-Kept rows n sharing =
-    (length rows ≡ 64) × ((n ≤ 64)
-    × (((i j : ℕ) → (grid n rows).shares i j ≡ (grid n rows).shares j i)
-    × (((i : ℕ) → (grid n rows).shares i i ≡ false)
-    × (((i j : ℕ) → n ≤ i → (grid n rows).shares i j ≡ false)
-    × ((sharing ≡ pairs (grid n rows)) × Unit {0})))))
+Kept rows n sharing = record {
+  long : length rows ≡ 64;
+  few : n ≤ 64;
+  alike : (i j : ℕ) → (grid n rows).shares i j ≡ (grid n rows).shares j i;
+  apart : (i : ℕ) → (grid n rows).shares i i ≡ false;
+  within : (i j : ℕ) → n ≤ i → (grid n rows).shares i j ≡ false;
+  counted : sharing ≡ pairs (grid n rows);
+}
 
 -- it keeps it where its table is sound and the pairs are counted
 pub kept : (rows : List BaselineSet) (n sharing : ℕ) → length rows ≡ 64 → Sound (grid n rows) → sharing ≡ pairs (grid n rows) → Kept rows n sharing
-kept rows n sharing long t counted = (long, (t.few, (t.alike, (t.apart, (t.within, (counted, tt))))))
+kept rows n sharing long t counted = record {
+  long = long;
+  few = t.few;
+  alike = t.alike;
+  apart = t.apart;
+  within = t.within;
+  counted = counted;
+}
 
 -- ---- no baselines
 

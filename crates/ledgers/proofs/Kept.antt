@@ -13,19 +13,31 @@ use Rattle.ledgers.proofs.Listed.{Entries, one, two}
 abbrev pub Once : Entries → ℕ → Type 0
 Once ps n = (k : ℕ) → k < n → listed ps k (one ps k) (two ps k) ≡ false
 
--- what a list keeps, in the order of its ghost fields
+-- what a list keeps, by its ghost fields
 abbrev pub Kept : Entries → ℕ → ℕ → Type 0
-Kept ps n count =
-    (length ps ≡ 512) × ((count ≤ 64) × ((n ≤ 512) × (Once ps n
-    × (((i j : ℕ) → listed ps n i j ≡ listed ps n j i)
-    × (((i : ℕ) → listed ps n i i ≡ false)
-    × (((i j : ℕ) → count ≤ i → listed ps n i j ≡ false)
-    × ((n ≡ pairs (listing count ps n)) × Unit {0})))))))
+Kept ps n count = record {
+  long : length ps ≡ 512;
+  few : count ≤ 64;
+  room : n ≤ 512;
+  once : Once ps n;
+  alike : (i j : ℕ) → listed ps n i j ≡ listed ps n j i;
+  apart : (i : ℕ) → listed ps n i i ≡ false;
+  within : (i j : ℕ) → count ≤ i → listed ps n i j ≡ false;
+  counted : n ≡ pairs (listing count ps n);
+}
 
 -- it keeps it where its table is sound and the pairs are counted
 pub kept : (ps : Entries) (n count : ℕ) → length ps ≡ 512 → n ≤ 512 → Once ps n → Sound (listing count ps n) → n ≡ pairs (listing count ps n) → Kept ps n count
-kept ps n count long room once t counted =
-    (long, (t.few, (room, (once, (t.alike, (t.apart, (t.within, (counted, tt))))))))
+kept ps n count long room once t counted = record {
+  long = long;
+  few = t.few;
+  room = room;
+  once = once;
+  alike = t.alike;
+  apart = t.apart;
+  within = t.within;
+  counted = counted;
+}
 
 -- no baselines
 pub kept_none : (ps : Entries) → length ps ≡ 512 → Kept ps 0 0

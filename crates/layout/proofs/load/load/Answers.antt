@@ -8,8 +8,8 @@ loop-i-init g c = loaded_none (g.E.Evidence.meaning c.args.evidence.now) c.empty
 pub loop-i-preserved : goal.loop-i-preserved
 loop-i-preserved g c =
     let few = (g.E.Evidence.sound c.args.evidence.now).few in
-    loaded_more (g.E.Evidence.meaning c.args.evidence.now) c.loop-i.rows c.loop-i.i c.load-row.result
-    (omega (arith, c.count-count.ensures)) c.load-row.ensures c.loop-i.invariant
+    loaded_more (g.E.Evidence.meaning c.args.evidence.now) c.loop-i.rows c.loop-i.i c.load_row.result
+    (omega (arith, c.count-count.ensures)) c.load_row.ensures c.loop-i.invariant
 
 pub invariant-of-result : goal.invariant-of-result
 invariant-of-result g c =

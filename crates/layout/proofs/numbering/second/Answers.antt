@@ -7,6 +7,6 @@ returns-in-default c = second_none c.args.a.bits c.in-default.ensures
 
 pub returns : goal.returns
 returns c =
-    c.unwrap-or.ensures
+    c.unwrap_or.ensures
     ∙ second_some c.args.a.bits c.in-Some.first c.without.result.bits c.lowest-2.result (search rules) (search rules)
     c.in-Some.ensures c.without.ensures.bits c.lowest-2.ensures

@@ -4,6 +4,6 @@ use Rattle.layout.proofs.placing.place.Goals as goal
 
 pub returns : goal.returns
 returns g c = record {
-  placed = subst (λ t. Placed t c.args.record.now c.place-rows.new.record c.place-rows.result) c.load-rows.ensures c.place-rows.ensures.placed;
-  few = c.place-rows.ensures.few;
+  placed = subst (λ t. Placed t c.args.record.now c.place_rows.new.record c.place_rows.result) c.load-rows.ensures c.place_rows.ensures.placed;
+  few = c.place_rows.ensures.few;
 }

@@ -18,16 +18,16 @@ returns-in-err-found c =
 pub number-numbers-requires : goal.number-numbers-requires
 number-numbers-requires c =
     let x = c.args.rows.now in
-    let found = c.in-ok-found.found in
-    whole_stars (told x) (sound_told x) (bits_at found.near) (has found.doubtful.bits) c.in-ok-found.ensures
+    let found = c.in_ok-found.found in
+    whole_stars (told x) (sound_told x) (bits_at found.near) (has found.doubtful.bits) c.in_ok-found.ensures
 
 pub returns : goal.returns
 returns c =
     let x = c.args.rows.now in
-    let found = c.in-ok-found.found in
+    let found = c.in_ok-found.found in
     let near = bits_at found.near in
     record {
       placed = numbered_solved (told x) (sound_told x) near found.doubtful.bits c.number-numbers.result
-          (record { entries = c.number-numbers.result.entries }) refl c.in-ok-found.ensures c.number-numbers.ensures;
+          (record { entries = c.number-numbers.result.entries }) refl c.in_ok-found.ensures c.number-numbers.ensures;
       few = omega (arith, c.number-numbers.ensures.imagers, imagers_length (told x) near (told x).count, (sound_told x).few);
     }

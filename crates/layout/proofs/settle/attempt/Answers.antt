@@ -16,7 +16,7 @@ verify-requires c =
     record {
       walked = c.requires.walked;
       small = near_small (told x) (sound_told x) r c.requires.walked.walking.below c.args.cross near
-          (λ v reach. subst (λ a. Handed (told x) r a near v) c.first-star-first.ensures (c.spread.ensures.handed v reach));
+          (λ v reach. subst (λ a. Handed (told x) r a near v) c.first_star-first.ensures (c.spread.ensures.handed v reach));
     }
 
 pub returns : goal.returns
@@ -27,7 +27,7 @@ returns c =
     let near = bits_at c.spread.new.near in
     let below = c.requires.walked.walking.below in
     let handed : (v : ℕ) → Reach t r v → Handed t r (first t r c.args.cross) near v =
-    λ v reach. subst (λ a. Handed t r a near v) c.first-star-first.ensures (c.spread.ensures.handed v reach) in
+    λ v reach. subst (λ a. Handed t r a near v) c.first_star-first.ensures (c.spread.ensures.handed v reach) in
     record {
       passes = same_from_decides c.verify.result (passes t r c.args.cross) c.verify.ensures
           (passes_tells t (sound_told x) r below c.args.cross near handed);

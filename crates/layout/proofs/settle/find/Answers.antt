@@ -54,7 +54,7 @@ returns c =
     let r = c.args.walk.now.root in
     let was = c.loop-cross.invariant in
     record {
-      found = was.0 ∙ none_left t r c.loop-cross.starts c.next.new.self c.in-default.ensures;
-      between = subst (Between t r) (sym c.in-default.ensures.2) was.1;
+      found = was.0 ∙ none_left t r c.loop-cross.starts c.next.new.self c.in_default.ensures;
+      between = subst (Between t r) (sym c.in_default.ensures.2) was.1;
       kept = was.2;
     }

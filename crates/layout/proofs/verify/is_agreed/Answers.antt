@@ -16,7 +16,7 @@ pub loop-w-preserved : goal.loop-w-preserved
 loop-w-preserved c =
     each_more c.loop-w.rest.bits c.without-rest.result.bits c.in-Some.w c.without-rest.ensures.members
     (star_of (told c.args.rows.now) (bits_at c.args.near.now) c.args.a.bits) c.args.a.bits
-    (search rules) (sym c.is-star-of.ensures ∙ c.if-not-is-star-of.false) c.loop-w.invariant
+    (search rules) (sym c.is_star_of.ensures ∙ c.if-not-is_star_of.false) c.loop-w.invariant
 
 pub loop-w-smaller : goal.loop-w-smaller
 loop-w-smaller c =
@@ -36,4 +36,4 @@ returns c =
     let t = told c.args.rows.now in
     let near = bits_at c.args.near.now in
     let a = c.args.a.bits in
-    sym ((agreed_tells t near a).1 (λ w _. each_all (star_of t near a) a c.loop-w.rest.bits c.in-default.ensures c.loop-w.invariant w))
+    sym ((agreed_tells t near a).1 (λ w _. each_all (star_of t near a) a c.loop-w.rest.bits c.in_default.ensures c.loop-w.invariant w))

@@ -16,4 +16,4 @@ returns c =
     let own : c.with.result.bits ≡ bit_or (single v) (row t v) =
     c.with.ensures.bits ∙ ap (λ m. put m v) c.row.ensures ∙ put_is (row t v) v c.requires ∙ or_comm (row t v) (single v) in
     ap₂ ◌&&◌ c.has.ensures
-    (c.is-empty.ensures ∙ ap (λ m. eqb m 0) (c.minus.ensures.bits ∙ ap (minus (bits_at c.args.near.now v)) own))
+    (c.is_empty.ensures ∙ ap (λ m. eqb m 0) (c.minus.ensures.bits ∙ ap (minus (bits_at c.args.near.now v)) own))

@@ -15,11 +15,11 @@ pub returns-then-u-v : goal.returns-then-u-v
 unfolding quick
 returns-then-u-v c =
     let e : c.in-Some.u ≡ lowest c.args.a.bits = lowest_unique c.args.a.bits c.in-Some.u (search rules) c.in-Some.ensures in
-    c.is-agreed.ensures ∙ sym (cond-true _ _ _ (eq-eqb _ _ (sym e ∙ c.if-u-v.true)))
+    c.is_agreed.ensures ∙ sym (cond-true _ _ _ (eq-eqb _ _ (sym e ∙ c.if-u-v.true)))
 
 pub returns-else-u-v : goal.returns-else-u-v
 unfolding quick
 returns-else-u-v c =
     let e : c.in-Some.u ≡ lowest c.args.a.bits = lowest_unique c.args.a.bits c.in-Some.u (search rules) c.in-Some.ensures in
-    c.is-star-of.ensures ∙ ap (star_of (told c.args.rows.now) (bits_at c.args.near.now) c.args.a.bits) e
+    c.is_star_of.ensures ∙ ap (star_of (told c.args.rows.now) (bits_at c.args.near.now) c.args.a.bits) e
     ∙ sym (cond-false _ _ _ (ne_eqb _ _ (λ h. c.if-u-v.false (e ∙ h))))

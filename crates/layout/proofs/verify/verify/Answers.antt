@@ -34,6 +34,6 @@ returns c =
     let w = c.args.walk.now in
     let near = bits_at c.args.near.now in (
       λ _. quick_stars (told x) (sound_told x) w.root c.requires.walked.walking.below near c.requires.small
-          (λ v reach. each_all (quick_at (told x) near) w.met.bits c.loop-v.rest.bits c.in-default.ensures c.loop-v.invariant v (c.requires.walked.whole v reach)),
+          (λ v reach. each_all (quick_at (told x) near) w.met.bits c.loop-v.rest.bits c.in_default.ensures c.loop-v.invariant v (c.requires.walked.whole v reach)),
       λ _. search rules,
     )

@@ -19,10 +19,10 @@ returns-in-default c =
 pub returns-then-doubtful : goal.returns-then-doubtful
 returns-then-doubtful c =
     let x = c.args.rows.now in
-    let w = c.of-cluster-walk.result in
+    let w = c.of_cluster-walk.result in
     settling_walk x c.args.self.now
     (record { near = c.settle.new.near; settled = c.union-self.result; doubtful = c.union-self-then-doubtful.result })
-    c.args.r w true c.of-cluster-walk.ensures.walked c.of-cluster-walk.ensures.from c.requires.below c.requires.settling c.requires.fresh
+    c.args.r w true c.of_cluster-walk.ensures.walked c.of_cluster-walk.ensures.from c.requires.below c.requires.settling c.requires.fresh
     c.settle.ensures.kept
     (subst (Settled (told x) w.root (bits_at c.settle.new.near)) c.if-doubtful.true c.in-Some.ensures.settled)
     c.union-self.ensures.members c.union-self-then-doubtful.ensures.members
@@ -30,10 +30,10 @@ returns-then-doubtful c =
 pub returns-else-doubtful : goal.returns-else-doubtful
 returns-else-doubtful c =
     let x = c.args.rows.now in
-    let w = c.of-cluster-walk.result in
+    let w = c.of_cluster-walk.result in
     settling_walk x c.args.self.now
     (record { near = c.settle.new.near; settled = c.union-self.result; doubtful = c.args.self.now.doubtful })
-    c.args.r w false c.of-cluster-walk.ensures.walked c.of-cluster-walk.ensures.from c.requires.below c.requires.settling c.requires.fresh
+    c.args.r w false c.of_cluster-walk.ensures.walked c.of_cluster-walk.ensures.from c.requires.below c.requires.settling c.requires.fresh
     c.settle.ensures.kept
     (subst (Settled (told x) w.root (bits_at c.settle.new.near)) c.if-doubtful.false c.in-Some.ensures.settled)
     c.union-self.ensures.members (λ v. sym (or-false (has c.args.self.now.doubtful.bits v)))

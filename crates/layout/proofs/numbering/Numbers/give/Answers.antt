@@ -13,9 +13,9 @@ pub loop-w-preserved : goal.loop-w-preserved
 loop-w-preserved c =
     let x = c.loop-w.self in
     let w = c.in-Some.w in
-    giving_more c.args.self.now c.args.a.bits c.loop-w.rest.bits c.without-rest.result.bits x w c.with-imager.result
+    giving_more c.args.self.now c.args.a.bits c.loop-w.rest.bits c.without-rest.result.bits x w c.with_imager.result
     c.in-Some.ensures (search rules) c.without-rest.ensures.members
-    (c.with-imager.ensures ∙ ap (λ b. given (get_or x.entries w blank) b x.next) c.has.ensures) c.loop-w.invariant
+    (c.with_imager.ensures ∙ ap (λ b. given (get_or x.entries w blank) b x.next) c.has.ensures) c.loop-w.invariant
 
 pub loop-w-smaller : goal.loop-w-smaller
 loop-w-smaller c =
@@ -30,5 +30,5 @@ returns c =
       long = g.long;
       next = ap (λ n. n + 1) g.next;
       begun = λ w. c.union-self.ensures.members w ∙ ap (λ m. has m w || has c.args.a.bits w) g.begun;
-      entries = giving_all c.args.self.now c.args.a.bits c.loop-w.rest.bits c.loop-w.self c.in-default.ensures g;
+      entries = giving_all c.args.self.now c.args.a.bits c.loop-w.rest.bits c.loop-w.self c.in_default.ensures g;
     }

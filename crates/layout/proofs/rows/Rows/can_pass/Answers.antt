@@ -33,5 +33,5 @@ returns c pass =
     let r = c.args.r in
     let few = x.few in
     let low : r < 64 = omega (arith, c.requires.below) in
-    c.is-clique.ensures (λ v w hv hw. pass_clique (told x) (sound_told x) r c.requires.below low c.args.cross pass v w
+    c.is_clique.ensures (λ v w hv hw. pass_clique (told x) (sound_told x) r c.requires.below low c.args.cross pass v w
     (ap (λ m. has m v) (sym c.requires.first) ∙ hv) (ap (λ m. has m w) (sym c.requires.first) ∙ hw))

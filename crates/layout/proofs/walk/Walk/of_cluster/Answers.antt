@@ -41,7 +41,7 @@ returns c =
       walked = record {
         walking = was.0;
         whole = λ v. closed_reach (told c.args.rows.now) w.root c.loop-u.visited.bits w.met.bits
-            (sym c.minus.ensures.bits ∙ c.in-default.ensures) (ap (has w.met.bits) was.1 ∙ was.2) was.3;
+            (sym c.minus.ensures.bits ∙ c.in_default.ensures) (ap (has w.met.bits) was.1 ∙ was.2) was.3;
       };
       from = was.1;
     }

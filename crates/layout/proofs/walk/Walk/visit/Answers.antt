@@ -31,6 +31,6 @@ returns c =
       walking = c.loop-v.invariant.0;
       root = c.loop-v.invariant.1;
       kept = c.loop-v.invariant.2;
-      met = λ v h. none_left c.row-row.result.bits c.loop-v.self.met.bits v (sym c.minus.ensures.bits ∙ c.in-default.ensures)
+      met = λ v h. none_left c.row-row.result.bits c.loop-v.self.met.bits v (sym c.minus.ensures.bits ∙ c.in_default.ensures)
           (ap (λ m. has m v) c.row-row.ensures ∙ row_has (told x) (sound_told x) c.args.u v ∙ h);
     }

@@ -5,8 +5,8 @@ use Rattle.ledgers.proofs.Kept.{kept_put, sound_of}
 use Rattle.ledgers.proofs.Added.{longer, added_put, added_once}
 use Rattle.ledgers.proofs.pair_list.PairList.add.Goals as goal
 
-pub invariant-of-self : goal.invariant-of-self
-invariant-of-self c =
+pub invariant_of-self : goal.invariant_of-self
+invariant_of-self c =
     let x = c.args.self.now in
     let i = c.args.i in
     let j = c.args.j in

@@ -5,4 +5,4 @@ use Rattle.ledgers.proofs.pair_list.PairListEvidence.shares.Goals as goal
 pub returns : goal.returns
 returns c =
     let x = c.args.self.now in
-    c.is-some.ensures ∙ found_says x.entries x.used c.args.i c.args.j c.find.result c.find.ensures
+    c.is_some.ensures ∙ found_says x.entries x.used c.args.i c.args.j c.find.result c.find.ensures

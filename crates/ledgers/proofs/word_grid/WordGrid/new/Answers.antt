@@ -1,5 +1,5 @@
 use Rattle.ledgers.proofs.Grids.{kept_none}
 use Rattle.ledgers.proofs.word_grid.WordGrid.new.Goals as goal
 
-pub invariant-of-result : goal.invariant-of-result
-invariant-of-result c = kept_none c.empty.result c.empty.ensures
+pub invariant_of-result : goal.invariant_of-result
+invariant_of-result c = kept_none c.empty.result c.empty.ensures

@@ -11,21 +11,21 @@ use Rattle.ledgers.proofs.word_grid.WordGridLedger.set.Goals.{then-on-2, else-on
 sound_of : (g : WordGrid) → Sound (grid g.count g.rows)
 sound_of g = record { few = g.few; alike = g.alike; apart = g.apart; within = g.within }
 
-pub overflow-sub-self : goal.overflow-sub-self
-overflow-sub-self c =
+pub overflow_sub-self : goal.overflow_sub-self
+overflow_sub-self c =
     let g = c.args.self.now in
     let w =
-    written_kept g.rows g.count c.args.i c.args.j c.args.on c.put-in.result c.put-in-2.result
-    g.long (sound_of g) c.if-i-self.false c.if-j-self.false c.if-i-j.false c.put-in.ensures c.put-in-2.ensures in
+    written_kept g.rows g.count c.args.i c.args.j c.args.on c.put_in.result c.put_in-2.result
+    g.long (sound_of g) c.if-i-self.false c.if-j-self.false c.if-i-j.false c.put_in.ensures c.put_in-2.ensures in
     let was = sym c.has.ensures ∙ beq_other c.has.result c.args.on c.if-has-on.false ∙ ap not c.if-on-2.false in
     omega (arith, w.0, ap one_if was, ap one_if c.if-on-2.false, g.counted)
 
-pub invariant-of-self : goal.invariant-of-self
-invariant-of-self c =
+pub invariant_of-self : goal.invariant_of-self
+invariant_of-self c =
     let g = c.args.self.now in
     let v =
-    written_kept g.rows g.count c.args.i c.args.j c.args.on c.put-in.result c.put-in-2.result
-    g.long (sound_of g) c.if-i-self.false c.if-j-self.false c.if-i-j.false c.put-in.ensures c.put-in-2.ensures in
+    written_kept g.rows g.count c.args.i c.args.j c.args.on c.put_in.result c.put_in-2.result
+    g.long (sound_of g) c.if-i-self.false c.if-j-self.false c.if-i-j.false c.put_in.ensures c.put_in-2.ensures in
     let was = ap one_if (sym c.has.ensures ∙ beq_other c.has.result c.args.on c.if-has-on.false) in
     v.1 c.if-on-2.self (elim c.if-on-2.branch [
       | then-on-2 w ↦ omega (arith, v.0, was, g.counted, w.self-is, ap one_if w.if-on-2.true, ap (λ b. one_if (not b)) w.if-on-2.true)
