@@ -90,11 +90,14 @@ loaded_more t rows n x l e was = record {
 
 -- what rows keep, in the order of their ghost fields
 abbrev pub Kept : ℕ → List BaselineSet → Type 0
-Kept n rows =
-    (length rows ≡ 64) × (((i : ℕ) → bits_at rows i < 2 ^ 64) × ((n ≤ 64)
-    × (((i j : ℕ) → (table_of n rows).shares i j ≡ (table_of n rows).shares j i)
-    × (((i : ℕ) → (table_of n rows).shares i i ≡ false)
-    × (((i j : ℕ) → n ≤ i → (table_of n rows).shares i j ≡ false) × Unit {0})))))
+Kept n rows = record {
+  long : length rows ≡ 64;
+  small : (i : ℕ) → bits_at rows i < 2 ^ 64;
+  few : n ≤ 64;
+  alike : (i j : ℕ) → (table_of n rows).shares i j ≡ (table_of n rows).shares j i;
+  apart : (i : ℕ) → (table_of n rows).shares i i ≡ false;
+  within : (i j : ℕ) → n ≤ i → (table_of n rows).shares i j ≡ false;
+}
 
 module _ (t : Table) (sound : Sound t) (n : ℕ) (rows : List BaselineSet) (e : n ≡ t.count) (k : ℕ) (reached : n ≤ k) (loaded : Loaded t rows k) where
   -- each row is that of the table
@@ -116,4 +119,11 @@ module _ (t : Table) (sound : Sound t) (n : ℕ) (rows : List BaselineSet) (e : 
   pub loaded_kept : Kept n rows
   loaded_kept =
       let x : Sound (table_of n rows) = subst Sound (sym loaded_told) sound in
-      (loaded.long, (λ i. rw (row_is i) (row_lt t i), (x.few, (x.alike, (x.apart, (x.within, tt))))))
+      record {
+        long = loaded.long;
+        small = λ i. rw (row_is i) (row_lt t i);
+        few = x.few;
+        alike = x.alike;
+        apart = x.apart;
+        within = x.within;
+      }

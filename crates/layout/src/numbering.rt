@@ -25,7 +25,7 @@ fn second(a: BaselineSet) -> usize
 
 // Two stars, the one with the lower second baseline first.
 fn in_order(a: BaselineSet, b: BaselineSet) -> (BaselineSet, BaselineSet)
-    ensures { result ≡ (if nat_le (second a.bits) (second b.bits) then a, b else b, a) }
+    ensures { result ≡ (if nat_le (second a.bits) (second b.bits) then (a, b) else (b, a)) }
 {
     if second(a) <= second(b) {
         (a, b)

@@ -5,7 +5,7 @@ use Rattle.host.proofs.output.write_entries.Goals as goal
 
 pub loop-i-preserved : goal.loop-i-preserved
 loop-i-preserved c =
-    let r = c.args.told-by.now in
+    let r = c.args.told_by.now in
     let i = c.loop-i.i in
     let e = entry_of r i in
     let flag = c.from.result in

@@ -12,7 +12,7 @@ returns-in-Some c =
 pub loop-i-preserved : goal.loop-i-preserved
 loop-i-preserved c r k l h =
     ⊎_elim
-    (λ e. ap (λ i. right_at c.args.n c.args.square.now i k) e ∙ c.in-default.ensures k h)
+    (λ e. ap (λ i. right_at c.args.n c.args.square.now i k) e ∙ c.in_default.ensures k h)
     (λ ne. c.loop-i.invariant r k (omega arith) h)
     (cases_eq r c.loop-i.i)
 

@@ -11,8 +11,8 @@ loop-i-preserved g c =
     loaded_more (g.E.Evidence.meaning c.args.evidence.now) c.loop-i.rows c.loop-i.i c.load_row.result
     (omega (arith, c.count-count.ensures)) c.load_row.ensures c.loop-i.invariant
 
-pub invariant-of-result : goal.invariant-of-result
-invariant-of-result g c =
+pub invariant_of-result : goal.invariant_of-result
+invariant_of-result g c =
     loaded_kept (g.E.Evidence.meaning c.args.evidence.now) (g.E.Evidence.sound c.args.evidence.now)
     c.count-count.result c.loop-i.rows c.count-count.ensures c.loop-i.i c.loop-i-test.false c.loop-i.invariant
 

@@ -16,11 +16,11 @@ begin-requires c =
     let x = c.args.rows.now in
     let near = bits_at c.args.near.now in
     let v = c.loop-v.v in
-    let two = begins_ordered (told x) near v (get_or c.args.near.now v none) c.far.result c.in-order.result refl c.far.ensures c.in-order.ensures in
+    let two = begins_ordered (told x) near v (get_or c.args.near.now v none) c.far.result c.in_order.result refl c.far.ensures c.in_order.ensures in
     let few = x.few in
     record {
       below = omega (arith, c.loop-v-test.true);
-      room = room_first (sound_told x) c.requires (marks c.doubts.result) v c.in-order.result.0.bits c.in-order.result.1.bits c.loop-v-test.true two c.loop-v.numbers c.loop-v.invariant;
+      room = room_first (sound_told x) c.requires (marks c.doubts.result) v c.in_order.result.0.bits c.in_order.result.1.bits c.loop-v-test.true two c.loop-v.numbers c.loop-v.invariant;
       long = c.loop-v.invariant.long;
     }
 
@@ -29,13 +29,13 @@ begin-requires-in-loop-v c =
     let x = c.args.rows.now in
     let near = bits_at c.args.near.now in
     let v = c.loop-v.v in
-    let two = begins_ordered (told x) near v (get_or c.args.near.now v none) c.far.result c.in-order.result refl c.far.ensures c.in-order.ensures in
+    let two = begins_ordered (told x) near v (get_or c.args.near.now v none) c.far.result c.in_order.result refl c.far.ensures c.in_order.ensures in
     let few = x.few in
-    let s = numbering_first (sound_told x) c.requires (marks c.doubts.result) v c.in-order.result.0.bits c.in-order.result.1.bits c.loop-v-test.true two
+    let s = numbering_first (sound_told x) c.requires (marks c.doubts.result) v c.in_order.result.0.bits c.in_order.result.1.bits c.loop-v-test.true two
     c.loop-v.numbers c.begin.new.self c.loop-v.invariant c.begin.ensures in
     record {
       below = omega (arith, c.loop-v-test.true);
-      room = room_second (sound_told x) c.requires (marks c.doubts.result) v c.in-order.result.0.bits c.in-order.result.1.bits c.loop-v-test.true two c.begin.new.self s;
+      room = room_second (sound_told x) c.requires (marks c.doubts.result) v c.in_order.result.0.bits c.in_order.result.1.bits c.loop-v-test.true two c.begin.new.self s;
       long = s.long;
     }
 
@@ -44,10 +44,10 @@ loop-v-preserved c =
     let x = c.args.rows.now in
     let near = bits_at c.args.near.now in
     let v = c.loop-v.v in
-    let two = begins_ordered (told x) near v (get_or c.args.near.now v none) c.far.result c.in-order.result refl c.far.ensures c.in-order.ensures in
-    numbering_second (sound_told x) c.requires (marks c.doubts.result) v c.in-order.result.0.bits c.in-order.result.1.bits c.loop-v-test.true two
+    let two = begins_ordered (told x) near v (get_or c.args.near.now v none) c.far.result c.in_order.result refl c.far.ensures c.in_order.ensures in
+    numbering_second (sound_told x) c.requires (marks c.doubts.result) v c.in_order.result.0.bits c.in_order.result.1.bits c.loop-v-test.true two
     c.begin.new.self c.begin-in-loop-v.new.self
-    (numbering_first (sound_told x) c.requires (marks c.doubts.result) v c.in-order.result.0.bits c.in-order.result.1.bits c.loop-v-test.true two
+    (numbering_first (sound_told x) c.requires (marks c.doubts.result) v c.in_order.result.0.bits c.in_order.result.1.bits c.loop-v-test.true two
     c.loop-v.numbers c.begin.new.self c.loop-v.invariant c.begin.ensures)
     c.begin-in-loop-v.ensures
 

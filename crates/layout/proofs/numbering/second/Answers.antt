@@ -2,8 +2,8 @@ use Rattle.std.proofs.Common.{◌∙◌, rules}
 use Rattle.layout.proofs.Giving.{second_none, second_some}
 use Rattle.layout.proofs.numbering.second.Goals as goal
 
-pub returns-in-default : goal.returns-in-default
-returns-in-default c = second_none c.args.a.bits c.in-default.ensures
+pub returns-in_default : goal.returns-in_default
+returns-in_default c = second_none c.args.a.bits c.in_default.ensures
 
 pub returns : goal.returns
 returns c =

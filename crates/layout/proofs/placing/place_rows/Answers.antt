@@ -9,10 +9,10 @@ use Rattle.layout.proofs.Tells.{sound_told}
 use Rattle.layout.proofs.Answer.{numbered_solved}
 use Rattle.layout.proofs.placing.place_rows.Goals as goal
 
-pub returns-in-err-found : goal.returns-in-err-found
-returns-in-err-found c =
-    let p = err_from_is_err_and c.from-residual.result c.from-residual.ensures.1 in
-    let e = c.in-err-found.ensures in
+pub returns-in_err-found : goal.returns-in_err-found
+returns-in_err-found c =
+    let p = err_from_is_err_and c.from_residual.result c.from_residual.ensures.1 in
+    let e = c.in_err-found.ensures in
     rw (p.1, p.2) (record { placed = (e.0, e.1, e.2, refl); few = tt })
 
 pub number-numbers-requires : goal.number-numbers-requires

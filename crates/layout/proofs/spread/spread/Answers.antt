@@ -8,8 +8,8 @@ loop-k-init c =
     spreading_none (told c.args.rows.now) c.args.walk.now (set c.args.near.now c.args.walk.now.root c.args.first)
     (simp length-set c.told-near)
 
-pub offset-bounds-near-from : goal.offset-bounds-near-from
-offset-bounds-near-from c =
+pub offset_bounds-near-from : goal.offset_bounds-near-from
+offset_bounds-near-from c =
     let b = step_below c.args.rows.now c.args.walk.now c.requires c.loop-k.k c.loop-k-test.true in
     search rules
 
@@ -19,8 +19,8 @@ bounds-near-from c = (step_below c.args.rows.now c.args.walk.now c.requires c.lo
 pub handed-requires : goal.handed-requires
 handed-requires c = (step_below c.args.rows.now c.args.walk.now c.requires c.loop-k.k c.loop-k-test.true).0
 
-pub offset-bounds-near-to : goal.offset-bounds-near-to
-offset-bounds-near-to c =
+pub offset_bounds-near-to : goal.offset_bounds-near-to
+offset_bounds-near-to c =
     let b = step_below c.args.rows.now c.args.walk.now c.requires c.loop-k.k c.loop-k-test.true in
     search rules
 

@@ -17,34 +17,34 @@ last_asked a b c r h k e = grind (arith, nat_tests)
 one_fails : (a b c r : Bool) → r ≡ false → r ≡ b → r ≡ (a && (b && c))
 one_fails a b c r h e = grind (arith, nat_tests)
 
-pub returns-then-not-near-fits : goal.returns-then-not-near-fits
+pub returns-then-not-near_fits : goal.returns-then-not-near_fits
 unfolding quick_at
-returns-then-not-near-fits c = sym (and_left _ _ (sym c.near-fits.ensures ∙ c.if-not-near-fits.true))
+returns-then-not-near_fits c = sym (and_left _ _ (sym c.near_fits.ensures ∙ c.if-not-near_fits.true))
 
-pub star-holds-requires : goal.star-holds-requires
+pub star_holds-requires : goal.star_holds-requires
 unfolding near_fits
-star-holds-requires c = (and_parts _ _ (sym c.near-fits.ensures ∙ c.if-not-near-fits.false)).0
+star_holds-requires c = (and_parts _ _ (sym c.near_fits.ensures ∙ c.if-not-near_fits.false)).0
 
-pub star-holds-requires-then-star-holds : goal.star-holds-requires-then-star-holds
-star-holds-requires-then-star-holds c =
+pub star_holds-requires-then-star_holds : goal.star_holds-requires-then-star_holds
+star_holds-requires-then-star_holds c =
     let v = c.args.v in
     ap (λ m. has m v) c.far.ensures ∙ far_has (sound_told c.args.rows.now) v (bits_at c.args.near.now v) v ∙ or_left _ _ (eq-eqb v v refl)
 
-pub returns-then-star-holds : goal.returns-then-star-holds
+pub returns-then-star_holds : goal.returns-then-star_holds
 unfolding quick_at
-returns-then-star-holds c =
+returns-then-star_holds c =
     let t = told c.args.rows.now in
     let near = bits_at c.args.near.now in
     let v = c.args.v in
-    last_asked (near_fits t near v) (quick t near v (near v)) (quick t near v (far t v (near v))) c.star-holds-then-star-holds.result
-    (sym c.near-fits.ensures ∙ c.if-not-near-fits.false) (sym c.star-holds.ensures ∙ c.if-star-holds.true)
-    (c.star-holds-then-star-holds.ensures ∙ ap (quick t near v) c.far.ensures)
+    last_asked (near_fits t near v) (quick t near v (near v)) (quick t near v (far t v (near v))) c.star_holds-then-star_holds.result
+    (sym c.near_fits.ensures ∙ c.if-not-near_fits.false) (sym c.star_holds.ensures ∙ c.if-star_holds.true)
+    (c.star_holds-then-star_holds.ensures ∙ ap (quick t near v) c.far.ensures)
 
-pub returns-else-star-holds : goal.returns-else-star-holds
+pub returns-else-star_holds : goal.returns-else-star_holds
 unfolding quick_at
-returns-else-star-holds c =
+returns-else-star_holds c =
     let t = told c.args.rows.now in
     let near = bits_at c.args.near.now in
     let v = c.args.v in
-    one_fails (near_fits t near v) (quick t near v (near v)) (quick t near v (far t v (near v))) c.star-holds.result
-    c.if-star-holds.false c.star-holds.ensures
+    one_fails (near_fits t near v) (quick t near v (near v)) (quick t near v (far t v (near v))) c.star_holds.result
+    c.if-star_holds.false c.star_holds.ensures

@@ -24,10 +24,10 @@ loop-w-smaller c =
     each_falls c.loop-w.rest.bits c.without-rest.result.bits c.in-Some.w c.without-rest.ensures.members
     c.loop-w.invariant.small (search rules) low.below low.member
 
-pub returns-then-not-is-star-of : goal.returns-then-not-is-star-of
-returns-then-not-is-star-of c =
+pub returns-then-not-is_star_of : goal.returns-then-not-is_star_of
+returns-then-not-is_star_of c =
     let low : Lowest c.loop-w.rest.bits c.in-Some.w = c.in-Some.ensures in
-    sym (unless _ (λ h. both_ways _ (sym c.is-star-of.ensures ∙ c.if-not-is-star-of.true)
+    sym (unless _ (λ h. both_ways _ (sym c.is_star_of.ensures ∙ c.if-not-is_star_of.true)
     ((agreed_tells (told c.args.rows.now) (bits_at c.args.near.now) c.args.a.bits).0 h c.in-Some.w low.below
     (c.loop-w.invariant.within c.in-Some.w low.member))))
 

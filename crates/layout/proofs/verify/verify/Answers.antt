@@ -16,14 +16,14 @@ loop-v-smaller c =
     each_falls c.loop-v.rest.bits c.without-rest.result.bits c.in-Some.v c.without-rest.ensures.members
     c.loop-v.invariant.small (search rules) low.below low.member
 
-pub returns-then-not-holds-at : goal.returns-then-not-holds-at
-returns-then-not-holds-at c =
+pub returns-then-not-holds_at : goal.returns-then-not-holds_at
+returns-then-not-holds_at c =
     let x = c.args.rows.now in
     let w = c.args.walk.now in
     let low : Lowest c.loop-v.rest.bits c.in-Some.v = c.in-Some.ensures in
     let walking = c.requires.walked.walking in (
       λ h. absurd (false≢true h),
-      λ good. absurd (both_ways _ (sym c.holds-at.ensures ∙ c.if-not-holds-at.true)
+      λ good. absurd (both_ways _ (sym c.holds_at.ensures ∙ c.if-not-holds_at.true)
           (stars_quick (told x) (sound_told x) w.root walking.below (bits_at c.args.near.now) c.requires.small good c.in-Some.v
           (steps_reach (told x) (sound_told x) w.root walking.below walking.steps c.in-Some.v (c.loop-v.invariant.within c.in-Some.v low.member)))),
     )

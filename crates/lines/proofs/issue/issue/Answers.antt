@@ -5,10 +5,10 @@ use Rattle.lines.proofs.Details.{begin_detail}
 use Rattle.lines.proofs.Issued.{issued}
 use Rattle.lines.proofs.issue.issue.Goals as goal
 
-pub returns-in-err-opening : goal.returns-in-err-opening
-returns-in-err-opening g c =
-    let p = err_from_is_err_and c.from-residual.result c.from-residual.ensures.1 in
-    let begun = c.in-err-opening.ensures in
+pub returns-in_err-opening : goal.returns-in_err-opening
+returns-in_err-opening g c =
+    let p = err_from_is_err_and c.from_residual.result c.from_residual.ensures.1 in
+    let begun = c.in_err-opening.ensures in
     let v = view g.L.Evidence g.L.Ledger c.args.survey.now in
     rw (p.1, p.2) (record {
       served = (_, Err _, (refl, begun.told), (refl, refl), begun.run);
@@ -17,7 +17,7 @@ returns-in-err-opening g c =
 
 pub returns : goal.returns
 returns g c =
-    let begun = c.in-ok-opening.ensures in
+    let begun = c.in_ok-opening.ensures in
     let profile = c.in-Ok.ensures in
     let table = c.in-Ok-table.ensures in
     let view_of = view g.L.Evidence g.L.Ledger in

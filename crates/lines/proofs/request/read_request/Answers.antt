@@ -11,52 +11,52 @@ returns-in-Resolve c = line_of_fields _ _ _ c.in-Some.ensures (one_field _ _ (se
 pub returns-in-Issue : goal.returns-in-Issue
 returns-in-Issue c = line_of_fields _ _ _ c.in-Some.ensures (one_field _ _ (search rules) (search rules))
 
-pub returns-in-ok-read-span : goal.returns-in-ok-read-span
-returns-in-ok-read-span c =
+pub returns-in_ok-read_span : goal.returns-in_ok-read_span
+returns-in_ok-read_span c =
     line_of_fields _ _ _ c.in-Some.ensures (two_fields _ _ _ (search rules) (search rules) (search rules))
 
-pub returns-in-ok-i : goal.returns-in-ok-i
-returns-in-ok-i c =
-    let pair = c.in-ok-i.ensures in
+pub returns-in_ok-i : goal.returns-in_ok-i
+returns-in_ok-i c =
+    let pair = c.in_ok-i.ensures in
     line_of_fields _ _ _ c.in-Some.ensures (pair_fields _ _ pair.0 _ _ pair.1 (search rules))
 
-pub returns-in-ok-i-2 : goal.returns-in-ok-i-2
-returns-in-ok-i-2 c =
-    let pair = c.in-ok-i-2.ensures in
+pub returns-in_ok-i-2 : goal.returns-in_ok-i-2
+returns-in_ok-i-2 c =
+    let pair = c.in_ok-i-2.ensures in
     line_of_fields _ _ _ c.in-Some.ensures (pair_fields _ _ pair.0 _ _ pair.1 (search rules))
 
-pub returns-in-err-read-span : goal.returns-in-err-read-span
-returns-in-err-read-span c =
-    let p = err_from_is_err_and c.from-residual.result c.from-residual.ensures.1 in
+pub returns-in_err-read_span : goal.returns-in_err-read_span
+returns-in_err-read_span c =
+    let p = err_from_is_err_and c.from_residual.result c.from_residual.ensures.1 in
     let text = c.in-Some.text.now in
     rw (p.1, p.2) (
       fields text,
       Enlist,
       ((text, c.in-Some.ensures, refl), search rules),
       search rules,
-      wrong_of_one (fields text) _ (search rules) c.in-err-read-span.ensures,
+      wrong_of_one (fields text) _ (search rules) c.in_err-read_span.ensures,
     )
 
-pub returns-in-err-i : goal.returns-in-err-i
-returns-in-err-i c =
-    let p = err_from_is_err_and c.from-residual-in-err-i.result c.from-residual-in-err-i.ensures.1 in
+pub returns-in_err-i : goal.returns-in_err-i
+returns-in_err-i c =
+    let p = err_from_is_err_and c.from_residual-in_err-i.result c.from_residual-in_err-i.ensures.1 in
     let text = c.in-Some.text.now in
     rw (p.1, p.2) (
       fields text,
       Share,
       ((text, c.in-Some.ensures, refl), search rules),
       search rules,
-      wrong_of_pair (fields text) _ (search rules) c.in-err-i.ensures,
+      wrong_of_pair (fields text) _ (search rules) c.in_err-i.ensures,
     )
 
-pub returns-in-err-i-2 : goal.returns-in-err-i-2
-returns-in-err-i-2 c =
-    let p = err_from_is_err_and c.from-residual-in-err-i-2.result c.from-residual-in-err-i-2.ensures.1 in
+pub returns-in_err-i-2 : goal.returns-in_err-i-2
+returns-in_err-i-2 c =
+    let p = err_from_is_err_and c.from_residual-in_err-i-2.result c.from_residual-in_err-i-2.ensures.1 in
     let text = c.in-Some.text.now in
     rw (p.1, p.2) (
       fields text,
       Part,
       ((text, c.in-Some.ensures, refl), search rules),
       search rules,
-      wrong_of_pair (fields text) _ (search rules) c.in-err-i-2.ensures,
+      wrong_of_pair (fields text) _ (search rules) c.in_err-i-2.ensures,
     )

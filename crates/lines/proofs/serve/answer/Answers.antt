@@ -7,8 +7,8 @@ use Rattle.lines.proofs.serve.answer.Goals as goal
 
 pub returns : goal.returns
 returns g c =
-    let read = c.in-ok-request.ensures in
-    let made = c.in-ok-serve.ensures.served in
+    let read = c.in_ok-request.ensures in
+    let made = c.in_ok-serve.ensures.served in
     record {
       answered = (
         made.0,
@@ -20,11 +20,11 @@ returns g c =
       small = tt;
     }
 
-pub returns-in-err-serve : goal.returns-in-err-serve
-returns-in-err-serve g c =
-    let p = err_from_is_err_and c.from-residual-in-err-serve.result c.from-residual-in-err-serve.ensures.1 in
-    let read = c.in-ok-request.ensures in
-    let made = c.in-err-serve.ensures.served in
+pub returns-in_err-serve : goal.returns-in_err-serve
+returns-in_err-serve g c =
+    let p = err_from_is_err_and c.from_residual-in_err-serve.result c.from_residual-in_err-serve.ensures.1 in
+    let read = c.in_ok-request.ensures in
+    let made = c.in_err-serve.ensures.served in
     rw (p.1, p.2) (record {
       answered = (
         made.0,
@@ -33,13 +33,13 @@ returns-in-err-serve g c =
         carried_no made.1 _ _ _ made.3,
         made.4,
       );
-      small = c.in-err-serve.ensures.small;
+      small = c.in_err-serve.ensures.small;
     })
 
-pub returns-in-err-request : goal.returns-in-err-request
-returns-in-err-request g c =
-    let p = err_from_is_err_and c.from-residual.result c.from-residual.ensures.1 in
-    let read = c.in-err-request.ensures in
+pub returns-in_err-request : goal.returns-in_err-request
+returns-in_err-request g c =
+    let p = err_from_is_err_and c.from_residual.result c.from_residual.ensures.1 in
+    let read = c.in_err-request.ensures in
     rw (p.1, p.2) (record {
       answered = ([], Err _, (Err _, read, (refl, refl, refl)), (refl, refl), λ start h run. run);
       small = text_detail c.args.bytes.now _ read;

@@ -1,14 +1,14 @@
 use Rattle.worked.proofs.Steps.{began, not_begun, profile_written, profile_lacks, table_written, table_lacks}
 use Rattle.worked.proofs.issuing.issue.Goals as goal
 
-pub returns-in-err-opening : goal.returns-in-err-opening
-returns-in-err-opening g c n a = absurd (not_begun g.L.Evidence g.L.Ledger _ _ n _ a c.in-err-opening.ensures.run)
+pub returns-in_err-opening : goal.returns-in_err-opening
+returns-in_err-opening g c n a = absurd (not_begun g.L.Evidence g.L.Ledger _ _ n _ a c.in_err-opening.ensures.run)
 
 pub withdraw-requires : goal.withdraw-requires
 withdraw-requires g c =
     let e = g.L.Evidence in
     let l = g.L.Ledger in
-    let b = began e l c.args.survey.now c.begin.new.self _ _ c.requires.1 c.in-ok-opening.ensures.run in
+    let b = began e l c.args.survey.now c.begin.new.self _ _ c.requires.1 c.in_ok-opening.ensures.run in
     let p = profile_written e l c.begin.new.self c.profile.new.self _ _ c.args.buffer.now c.profile.new.buffer b _ _ c.in-Ok.ensures.run in
     let q = table_lacks e l c.begin.new.self c.profile.new.self c.table.new.self _ _ _ c.args.buffer.now c.profile.new.buffer c.table.new.buffer p _ _ c.in-Err-table.ensures.run in
     (_, _, q.0, q.1)
@@ -17,7 +17,7 @@ pub withdraw-requires-in-Err : goal.withdraw-requires-in-Err
 withdraw-requires-in-Err g c =
     let e = g.L.Evidence in
     let l = g.L.Ledger in
-    let b = began e l c.args.survey.now c.begin.new.self _ _ c.requires.1 c.in-ok-opening.ensures.run in
+    let b = began e l c.args.survey.now c.begin.new.self _ _ c.requires.1 c.in_ok-opening.ensures.run in
     let q = profile_lacks e l c.begin.new.self c.profile.new.self _ _ c.args.buffer.now c.profile.new.buffer b _ _ c.in-Err.ensures.run in
     (_, _, q.0, q.1)
 
@@ -25,7 +25,7 @@ pub returns-in-Ok-table : goal.returns-in-Ok-table
 returns-in-Ok-table g c n a =
     let e = g.L.Evidence in
     let l = g.L.Ledger in
-    let b = began e l c.args.survey.now c.begin.new.self _ _ a c.in-ok-opening.ensures.run in
+    let b = began e l c.args.survey.now c.begin.new.self _ _ a c.in_ok-opening.ensures.run in
     let p = profile_written e l c.begin.new.self c.profile.new.self _ _ c.args.buffer.now c.profile.new.buffer b _ _ c.in-Ok.ensures.run in
     table_written e l c.begin.new.self c.profile.new.self c.table.new.self _ _ _ c.args.buffer.now c.profile.new.buffer c.table.new.buffer p _ c.in-Ok-table.ensures.run
 
@@ -33,7 +33,7 @@ pub returns-in-Err-table : goal.returns-in-Err-table
 returns-in-Err-table g c n a =
     let e = g.L.Evidence in
     let l = g.L.Ledger in
-    let b = began e l c.args.survey.now c.begin.new.self _ _ a c.in-ok-opening.ensures.run in
+    let b = began e l c.args.survey.now c.begin.new.self _ _ a c.in_ok-opening.ensures.run in
     let p = profile_written e l c.begin.new.self c.profile.new.self _ _ c.args.buffer.now c.profile.new.buffer b _ _ c.in-Ok.ensures.run in
     let q = table_lacks e l c.begin.new.self c.profile.new.self c.table.new.self _ _ _ c.args.buffer.now c.profile.new.buffer c.table.new.buffer p _ _ c.in-Err-table.ensures.run in
     (q.2, c.withdraw.ensures n _ q.0)
@@ -42,6 +42,6 @@ pub returns-in-Err : goal.returns-in-Err
 returns-in-Err g c n a =
     let e = g.L.Evidence in
     let l = g.L.Ledger in
-    let b = began e l c.args.survey.now c.begin.new.self _ _ a c.in-ok-opening.ensures.run in
+    let b = began e l c.args.survey.now c.begin.new.self _ _ a c.in_ok-opening.ensures.run in
     let q = profile_lacks e l c.begin.new.self c.profile.new.self _ _ c.args.buffer.now c.profile.new.buffer b _ _ c.in-Err.ensures.run in
     (q.2, c.withdraw-in-Err.ensures n _ q.0)

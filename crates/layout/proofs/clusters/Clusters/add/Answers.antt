@@ -8,12 +8,12 @@ use Rattle.layout.proofs.Tells.{sound_told}
 use Rattle.layout.proofs.AllSettled.{settling_clash, settling_walk}
 use Rattle.layout.proofs.clusters.Clusters.add.Goals as goal
 
-pub returns-in-default : goal.returns-in-default
-returns-in-default c =
+pub returns-in_default : goal.returns-in_default
+returns-in_default c =
     let x = c.args.rows.now in (
       refl,
       settling_clash (told x) (sound_told x) c.args.self.now c.args.r c.requires.below c.requires.settling c.requires.fresh
-          (ap (passing (told x)) (sym c.of-cluster-walk.ensures.from) ∙ c.in-default.ensures.settled),
+          (ap (passing (told x)) (sym c.of_cluster-walk.ensures.from) ∙ c.in_default.ensures.settled),
     )
 
 pub returns-then-doubtful : goal.returns-then-doubtful

@@ -20,9 +20,9 @@ returns-else-first-v c =
     subst (λ b. MatchBool b (Given c.args.self.now star c.args.self.now) (c.args.self.now ≡ c.args.self.now))
     (sym (ne_eqb _ _ (λ h. c.if-first-v.false (e ∙ h)))) refl
 
-pub returns-in-default : goal.returns-in-default
-returns-in-default c =
+pub returns-in_default : goal.returns-in_default
+returns-in_default c =
     let star = c.args.a.bits in
-    let e : lowest star ≡ 64 = ap lowest c.in-default.ensures ∙ trailing_of_zero 64 in
+    let e : lowest star ≡ 64 = ap lowest c.in_default.ensures ∙ trailing_of_zero 64 in
     subst (λ b. MatchBool b (Given c.args.self.now star c.args.self.now) (c.args.self.now ≡ c.args.self.now))
     (sym (ne_eqb (lowest star) c.args.v (λ h. omega (arith, c.requires.below)))) refl

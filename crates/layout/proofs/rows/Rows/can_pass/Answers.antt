@@ -16,14 +16,14 @@ row-requires c =
     let b : has (between (told x) c.args.r) c.in-Some.x ≡ true = subst (Start (told x) c.args.r) c.in-Some.is c.requires.start in
     has_lt 64 _ c.in-Some.x (between_lt (told x) (sound_told x) c.args.r) b
 
-pub returns-then-not-is-empty : goal.returns-then-not-is-empty
-returns-then-not-is-empty c pass =
+pub returns-then-not-is_empty : goal.returns-then-not-is_empty
+returns-then-not-is_empty c pass =
     let x = c.args.self.now in
     let r = c.args.r in
     let few = x.few in
     let low : r < 64 = omega (arith, c.requires.below) in
     let b : has (between (told x) r) c.in-Some.x ≡ true = subst (Start (told x) r) c.in-Some.is c.requires.start in
-    absurd (both_ways _ (sym c.is-empty.ensures ∙ c.if-not-is-empty.true)
+    absurd (both_ways _ (sym c.is_empty.ensures ∙ c.if-not-is_empty.true)
     (eq-eqb _ _ (c.common.ensures.bits ∙ ap₂ bit_and c.row.ensures c.between.ensures
     ∙ pass_cross (told x) (sound_told x) r c.requires.below low c.in-Some.x b (ap (passes (told x) r) (sym c.in-Some.is) ∙ pass))))
 

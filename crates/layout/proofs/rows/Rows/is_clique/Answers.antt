@@ -13,11 +13,11 @@ loop-v-smaller c =
     each_falls c.loop-v.rest.bits c.without-rest.result.bits c.in-Some.v c.without-rest.ensures.members
     c.loop-v.invariant.0 (search rules) low.below low.member
 
-pub returns-then-not-is-empty : goal.returns-then-not-is-empty
-returns-then-not-is-empty c clique =
+pub returns-then-not-is_empty : goal.returns-then-not-is_empty
+returns-then-not-is_empty c clique =
     let v = c.in-Some.v in
     let low : Lowest c.loop-v.rest.bits v = c.in-Some.ensures in
-    absurd (both_ways _ (sym c.is-empty.ensures ∙ c.if-not-is-empty.true)
+    absurd (both_ways _ (sym c.is_empty.ensures ∙ c.if-not-is_empty.true)
     (eq-eqb _ _ (c.minus.ensures.bits
     ∙ ap (minus c.args.a.bits) (c.with.ensures.bits ∙ ap (λ m. put m v) c.row.ensures)
     ∙ clique_within (told c.args.self.now) (sound_told c.args.self.now) c.args.a.bits v (search rules) low.below

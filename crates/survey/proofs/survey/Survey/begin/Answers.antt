@@ -8,14 +8,14 @@ use Rattle.survey.proofs.survey.Survey.begin.Goals as goal
 nothing_begun : {A B : Type 0} → record { told : A; run : B } → record { told : A; run : B; room : Unit {0} }
 nothing_begun k = record { told = k.told; run = k.run; room = tt }
 
-pub returns-then-not-is-idle : goal.returns-then-not-is-idle
-returns-then-not-is-idle g c = nothing_begun (goes_on g.L.Evidence g.L.Ledger _ _ _ (search rules))
+pub returns-then-not-is_idle : goal.returns-then-not-is_idle
+returns-then-not-is_idle g c = nothing_begun (goes_on g.L.Evidence g.L.Ledger _ _ _ (search rules))
 
 pub returns-then-not-self : goal.returns-then-not-self
 returns-then-not-self g c = nothing_begun (goes_on g.L.Evidence g.L.Ledger _ _ _ (search rules))
 
-pub returns-then-self-ge-MOST-ISSUES : goal.returns-then-self-ge-MOST-ISSUES
-returns-then-self-ge-MOST-ISSUES g c = nothing_begun (goes_on g.L.Evidence g.L.Ledger _ _ _ (search rules))
+pub returns-then-self-ge-MOST_ISSUES : goal.returns-then-self-ge-MOST_ISSUES
+returns-then-self-ge-MOST_ISSUES g c = nothing_begun (goes_on g.L.Evidence g.L.Ledger _ _ _ (search rules))
 
 pub returns : goal.returns
 returns g c =

@@ -10,34 +10,34 @@ use Rattle.survey.proofs.survey.Survey.enlist.Goals as goal
 pub returns : goal.returns
 returns g c =
     let v = view g.L.Evidence g.L.Ledger c.args.self.now in
-    let a = c.in-ok-baseline.ensures in
+    let a = c.in_ok-baseline.ensures in
     let wide = lt-ltb 0 c.args.span (omega arith) in
-    let idle = sym c.is-idle.ensures ∙ c.if-not-is-idle.false in
+    let idle = sym c.is_idle.ensures ∙ c.if-not-is_idle.false in
     let spans : (g.L.Evidence.meaning c.args.self.now.ledger).count < length c.args.self.now.spans = search rules in
     goes_on g.L.Evidence g.L.Ledger _ _ _ (
       rw (idle, wide) a.table.0,
       (a.table.1.number, enlisted v c.args.self.now.spans refl a.most _ _ a.table.1 spans),
     )
 
-pub returns-in-err-baseline : goal.returns-in-err-baseline
-returns-in-err-baseline g c =
-    let p = err_from_is_err_and c.from-residual.result c.from-residual.ensures.1 in
+pub returns-in_err-baseline : goal.returns-in_err-baseline
+returns-in_err-baseline g c =
+    let p = err_from_is_err_and c.from_residual.result c.from_residual.ensures.1 in
     let v = view g.L.Evidence g.L.Ledger c.args.self.now in
-    let a = c.in-err-baseline.ensures in
+    let a = c.in_err-baseline.ensures in
     let wide = lt-ltb 0 c.args.span (omega arith) in
-    let idle = sym c.is-idle.ensures ∙ c.if-not-is-idle.false in
+    let idle = sym c.is_idle.ensures ∙ c.if-not-is_idle.false in
     rw (p.1, p.2) (goes_on g.L.Evidence g.L.Ledger _ _ _ (
       rw (idle, wide) a.table.0,
       unchanged v c.args.self.now.spans refl a.most a.table.1,
     ))
 
-pub returns-then-not-is-idle : goal.returns-then-not-is-idle
-returns-then-not-is-idle g c = goes_on g.L.Evidence g.L.Ledger _ _ _ (search rules)
+pub returns-then-not-is_idle : goal.returns-then-not-is_idle
+returns-then-not-is_idle g c = goes_on g.L.Evidence g.L.Ledger _ _ _ (search rules)
 
 pub returns-then-span-eq0 : goal.returns-then-span-eq0
 returns-then-span-eq0 g c = goes_on g.L.Evidence g.L.Ledger _ _ _ (search rules)
 
-pub invariant-of-self-2 : goal.invariant-of-self-2
-invariant-of-self-2 g c =
+pub invariant_of-self-2 : goal.invariant_of-self-2
+invariant_of-self-2 g c =
     let s = c.args.self.now in
-    (s.numbers, (set_below s.spans c.in-ok-baseline.baseline c.args.span 65536 s.lengths (search rules), (s.chips, tt)))
+    (s.numbers, (set_below s.spans c.in_ok-baseline.baseline c.args.span 65536 s.lengths (search rules), (s.chips, tt)))

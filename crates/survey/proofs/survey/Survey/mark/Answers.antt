@@ -7,8 +7,8 @@ use Rattle.survey.proofs.survey.Survey.mark.Goals as goal
 pub returns-then-changed : goal.returns-then-changed
 returns-then-changed g c =
     let v = view g.L.Evidence g.L.Ledger c.args.self.now in
-    let a = c.in-ok-changed.ensures in
-    let idle = sym c.is-idle.ensures ∙ c.if-not-is-idle.false in (
+    let a = c.in_ok-changed.ensures in
+    let idle = sym c.is_idle.ensures ∙ c.if-not-is_idle.false in (
       rw idle a.table.0,
       (a.table.1.told, marked v c.args.self.now.spans refl a.most c.args.i c.args.j c.args.on _ _ a.table.1 (sym (ap (λ b. cond b false v.resolved) c.if-changed.true))),
     )
@@ -16,18 +16,18 @@ returns-then-changed g c =
 pub returns-else-changed : goal.returns-else-changed
 returns-else-changed g c =
     let v = view g.L.Evidence g.L.Ledger c.args.self.now in
-    let a = c.in-ok-changed.ensures in
-    let idle = sym c.is-idle.ensures ∙ c.if-not-is-idle.false in (
+    let a = c.in_ok-changed.ensures in
+    let idle = sym c.is_idle.ensures ∙ c.if-not-is_idle.false in (
       rw idle a.table.0,
       (a.table.1.told, marked v c.args.self.now.spans refl a.most c.args.i c.args.j c.args.on _ _ a.table.1 (sym (ap (λ b. cond b false v.resolved) c.if-changed.false))),
     )
 
-pub returns-in-err-changed : goal.returns-in-err-changed
-returns-in-err-changed g c =
-    let p = err_from_is_err_and c.from-residual.result c.from-residual.ensures.1 in
+pub returns-in_err-changed : goal.returns-in_err-changed
+returns-in_err-changed g c =
+    let p = err_from_is_err_and c.from_residual.result c.from_residual.ensures.1 in
     let v = view g.L.Evidence g.L.Ledger c.args.self.now in
-    let a = c.in-err-changed.ensures in
-    let idle = sym c.is-idle.ensures ∙ c.if-not-is-idle.false in
+    let a = c.in_err-changed.ensures in
+    let idle = sym c.is_idle.ensures ∙ c.if-not-is_idle.false in
     rw (p.1, p.2) (
       rw idle a.table.0,
       unchanged v c.args.self.now.spans refl a.most a.table.1,

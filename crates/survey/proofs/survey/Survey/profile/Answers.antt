@@ -2,8 +2,8 @@ use Rattle.std.proofs.Common.{rules}
 use Rattle.survey.proofs.Lawful.{goes_on}
 use Rattle.survey.proofs.survey.Survey.profile.Goals as goal
 
-pub returns-then-not-admits-opening : goal.returns-then-not-admits-opening
-returns-then-not-admits-opening g c = goes_on g.L.Evidence g.L.Ledger _ _ _ (search rules)
+pub returns-then-not-admits_opening : goal.returns-then-not-admits_opening
+returns-then-not-admits_opening g c = goes_on g.L.Evidence g.L.Ledger _ _ _ (search rules)
 
 pub returns-in-Ok : goal.returns-in-Ok
 returns-in-Ok g c = goes_on g.L.Evidence g.L.Ledger _ _ _ (search rules)

@@ -8,9 +8,9 @@ use Rattle.survey.proofs.survey.Survey.resolve.Goals as goal
 
 pub returns-in-Ok : goal.returns-in-Ok
 returns-in-Ok g c =
-    let idle = sym c.is-idle.ensures ∙ c.if-not-is-idle.false in
-    let counted = c.count-doubtful-doubtful.ensures in
-    let few : c.count-doubtful-doubtful.result ≤ 64 =
+    let idle = sym c.is_idle.ensures ∙ c.if-not-is_idle.false in
+    let counted = c.count_doubtful-doubtful.ensures in
+    let few : c.count_doubtful-doubtful.result ≤ 64 =
     omega (arith, counted.few, c.count.ensures, (g.L.Evidence.sound c.args.self.now.ledger).few) in
     let k = goes_on g.L.Evidence g.L.Ledger _ _ _ (
       rw idle,
@@ -22,7 +22,7 @@ returns-in-Ok g c =
 
 pub returns-in-Err : goal.returns-in-Err
 returns-in-Err g c =
-    let idle = sym c.is-idle.ensures ∙ c.if-not-is-idle.false in
+    let idle = sym c.is_idle.ensures ∙ c.if-not-is_idle.false in
     let p = c.in-Err.ensures.placed in
     let k = goes_on g.L.Evidence g.L.Ledger _ _ _ (
       inr (rw idle, (p.0, p.1, p.2)),
@@ -30,7 +30,7 @@ returns-in-Err g c =
     ) in
     record { told = k.told; run = k.run; few = tt }
 
-pub returns-then-not-is-idle : goal.returns-then-not-is-idle
-returns-then-not-is-idle g c =
+pub returns-then-not-is_idle : goal.returns-then-not-is_idle
+returns-then-not-is_idle g c =
     let k = goes_on g.L.Evidence g.L.Ledger _ _ _ (search rules) in
     record { told = k.told; run = k.run; few = tt }
