@@ -7,8 +7,8 @@ use Rattle.theory.specs.Layout.{Ends, stands}
 use Rattle.files.specs.Each.{each}
 use Rattle.files.specs.Forms.{mark_text}
 use Rattle.files.specs.Line.{line}
-use Rattle.files.specs.Profile.{profile_head, profile_lens, imager_lines}
-use Rattle.files.specs.Table.{table_head, table_row}
+use Rattle.files.specs.Profile.{profile_head, profile_lens, imager_lines, profile_bytes}
+use Rattle.files.specs.Table.{table_head, table_row, table_bytes}
 use Rattle.files.specs.Theorems.{FilesFit}
 use Rattle.files.proofs.Imagers.{joined_each}
 use Rattle.files.proofs.Sums.{length_each_le, sum_le, sum_swap, two_ends}
@@ -77,8 +77,13 @@ module _ (imagers : ℕ) (spans : List ℕ) (ends : ℕ → Ends) (few : imagers
             five (get_or spans i 0) (small i l),
           )
 
-pub files_fit : FilesFit
-files_fit survey issue imagers spans ends doubtful s k few short small within =
+-- so both files have room in 4,096 bytes, where an imager is any number of a byte
+pub bytes_fit : (survey issue imagers : ℕ) (spans : List ℕ) (ends : ℕ → Ends) (doubtful : ℕ → Bool)
+    → survey < 65536 → issue ≤ 9999 → imagers < 256 → length spans ≤ 64
+    → ((i : ℕ) → i < length spans → get_or spans i 0 < 65536)
+    → ((i : ℕ) → i < length spans → ((ends i).0 < 256) × ((ends i).1 < 256))
+    → length (profile_bytes survey issue imagers spans ends) + length (table_bytes survey issue spans ends doubtful) ≤ 4096
+bytes_fit survey issue imagers spans ends doubtful s k few short small within =
     omega (
       arith,
       length-append (profile_head survey issue imagers) (each (imager_lines spans ends) imagers),
@@ -92,3 +97,9 @@ files_fit survey issue imagers spans ends doubtful s k few short small within =
       lenses_le imagers spans ends few short small,
       rows_le imagers spans ends few short small doubtful within,
     )
+
+-- and so where there are at most 128 imagers
+pub files_fit : FilesFit
+files_fit survey issue imagers spans ends doubtful s k few short small within =
+    bytes_fit survey issue imagers spans ends doubtful s k (omega arith) short small
+    (λ i l. (omega (arith, (within i l).0), omega (arith, (within i l).1)))

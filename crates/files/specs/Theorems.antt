@@ -6,14 +6,14 @@ use Rattle.files.specs.Profile.{profile_bytes}
 use Rattle.files.specs.Reading.{Lacks, fields}
 use Rattle.files.specs.Table.{table_bytes}
 
--- The two files of an issue have at most 4,096 bytes together, for numbers of 16 bits, issues up to 9,999, 64 baselines, and
--- imagers that are told in a byte. (The two imagers of a baseline need not differ, nor be among those that are counted.)
+-- The two files of an issue have at most 4,096 bytes together, for numbers of 16 bits, issues up to 9,999,
+-- 64 baselines and 128 imagers. (The two imagers of a baseline need not differ.)
 abbrev pub FilesFit : Type 0
 FilesFit =
     (survey issue imagers : ℕ) (spans : List ℕ) (ends : ℕ → Ends) (doubtful : ℕ → Bool)
-    → survey < 65536 → issue ≤ 9999 → imagers < 256 → length spans ≤ 64
+    → survey < 65536 → issue ≤ 9999 → imagers ≤ 128 → length spans ≤ 64
     → ((i : ℕ) → i < length spans → slice_index spans i < 65536)
-    → ((i : ℕ) → i < length spans → ((ends i).0 < 256) × ((ends i).1 < 256))
+    → ((i : ℕ) → i < length spans → ((ends i).0 < imagers) × ((ends i).1 < imagers))
     → length (profile_bytes survey issue imagers spans ends) + length (table_bytes survey issue spans ends doubtful) ≤ 4096
 
 -- Texts that have no comma are the fields of the line that they make, if there are any,

@@ -4,7 +4,7 @@ use Rattle.std.proofs.lemmas.List.{length-take}
 use Rattle.evidence.specs.declared.evidence.Evidence.{Ghosts as EvidenceGhosts}
 use Rattle.evidence.specs.declared.ledger.Ledger.{Ghosts as LedgerGhosts}
 use Rattle.theory.specs.Record.{ends_of, doubt_of}
-use Rattle.files.proofs.Sizes.{files_fit}
+use Rattle.files.proofs.Sizes.{bytes_fit}
 use Rattle.survey.specs.declared.survey.Survey.{Survey}
 use Rattle.survey.specs.declared.survey.Stage.{Stage}
 use Rattle.survey.specs.Views.{view}
@@ -37,5 +37,5 @@ pub both_fit : {L : Type 0} (e : EvidenceGhosts L) (g : LedgerGhosts L) (s : Sur
 both_fit e g s begun stage b =
     let n = (e.meaning s.ledger).count in
     let few : length (take n s.spans) ≤ 64 = rw length-take (omega (arith, (e.sound s.ledger).few)) in
-    files_fit s.number begun s.imagers (take n s.spans) (ends_of s.kept) (doubt_of s.kept)
+    bytes_fit s.number begun s.imagers (take n s.spans) (ends_of s.kept) (doubt_of s.kept)
     s.numbers.0 b s.numbers.1 few (λ i _. take_below n s.spans 65536 (omega arith) s.lengths i) (λ i _. s.chips i)

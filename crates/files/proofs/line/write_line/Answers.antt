@@ -11,16 +11,16 @@ short_line word fields first n e s f =
     let count : length first ≤ 16 = rw e (rw length-take (omega arith)) in
     rw (sym e) (omega (arith, s, f, count))
 
-pub returns-then-not-has-room : goal.returns-then-not-has-room
-returns-then-not-has-room c =
+pub returns-then-not-has_room : goal.returns-then-not-has_room
+returns-then-not-has_room c =
     record {
       written = search rules;
-      short = short_line _ _ _ _ c.first-fields-first.ensures c.line-len-need.ensures.same c.line-len-need.ensures.few;
+      short = short_line _ _ _ _ c.first_fields-first.ensures c.line_len-need.ensures.same c.line_len-need.ensures.few;
     }
 
 pub returns : goal.returns
 returns c =
     record {
       written = search rules;
-      short = short_line _ _ _ _ c.first-fields-first.ensures c.line-len-need.ensures.same c.line-len-need.ensures.few;
+      short = short_line _ _ _ _ c.first_fields-first.ensures c.line_len-need.ensures.same c.line_len-need.ensures.few;
     }

@@ -4,25 +4,25 @@ use Rattle.files.proofs.Digits.{one_digit, digit_more}
 use Rattle.files.proofs.Splices.{puts_then}
 use Rattle.files.proofs.number.+put_number.Goals as goal
 
-pub put-byte-requires : goal.put-byte-requires
-put-byte-requires t c = omega (arith, one_digit c.args.n (omega arith))
+pub put_byte-requires : goal.put_byte-requires
+put_byte-requires t c = omega (arith, one_digit c.args.n (omega arith))
 
 pub returns-then-n-lt10 : goal.returns-then-n-lt10
 returns-then-n-lt10 t c =
     let same : c.args.n % 10 ≡ c.args.n = omega arith in
-    rw (decimal_digit c.args.n (omega arith)) (rw same at c.put-byte.ensures)
+    rw (decimal_digit c.args.n (omega arith)) (rw same at c.put_byte.ensures)
 
-pub put-number-end-requires : goal.put-number-end-requires
-put-number-end-requires t c =
+pub put_number-end-requires : goal.put_number-end-requires
+put_number-end-requires t c =
     let l = digit_more c.args.n (length (decimal (c.args.n / 10))) (omega arith) (omega arith) refl in
     (search rules, omega arith)
 
-pub put-byte-requires-2 : goal.put-byte-requires-2
-put-byte-requires-2 t c =
+pub put_byte-requires-2 : goal.put_byte-requires-2
+put_byte-requires-2 t c =
     let l = digit_more c.args.n (length (decimal (c.args.n / 10))) (omega arith) (omega arith) refl in
     omega arith
 
 pub returns : goal.returns
 returns t c =
     let l = digit_more c.args.n (length (decimal (c.args.n / 10))) (omega arith) (omega arith) refl in
-    rw (decimal_step c.args.n (omega arith) (omega arith)) (puts_then c.put-number-end.ensures c.put-byte-2.ensures (omega arith))
+    rw (decimal_step c.args.n (omega arith) (omega arith)) (puts_then c.put_number-end.ensures c.put_byte-2.ensures (omega arith))

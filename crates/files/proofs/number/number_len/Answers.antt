@@ -14,5 +14,5 @@ returns-in-100-to-999 c = search (rules, three_digits)
 pub returns-in-1000-to-9999 : goal.returns-in-1000-to-9999
 returns-in-1000-to-9999 c = search (rules, four_digits)
 
-pub returns-in-default : goal.returns-in-default
-returns-in-default c = search (rules, five_digits)
+pub returns-in_default : goal.returns-in_default
+returns-in_default c = search (rules, five_digits)

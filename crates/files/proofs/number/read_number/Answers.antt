@@ -4,26 +4,26 @@ use Rattle.std.proofs.lemmas.Bool.{eqb-true, eqb-false, both_ways, cases_lt}
 use Rattle.files.proofs.Spelled.{not_empty, not_long, not_zero_first, not_digit, not_large, is_number, read_on, power_more}
 use Rattle.files.proofs.number.read_number.Goals as goal
 
-pub returns-then-is-empty : goal.returns-then-is-empty
-returns-then-is-empty c = not_empty c.args.bytes.now (eqb-true (length c.args.bytes.now) 0 (sym c.if-is-empty.ensures))
+pub returns-then-is_empty : goal.returns-then-is_empty
+returns-then-is_empty c = not_empty c.args.bytes.now (eqb-true (length c.args.bytes.now) 0 (sym c.if-is_empty.ensures))
 
-pub returns-then-bytes-gt-MOST-DIGITS : goal.returns-then-bytes-gt-MOST-DIGITS
-returns-then-bytes-gt-MOST-DIGITS c = not_long c.args.bytes.now (omega arith)
+pub returns-then-bytes-gt-MOST_DIGITS : goal.returns-then-bytes-gt-MOST_DIGITS
+returns-then-bytes-gt-MOST_DIGITS c = not_long c.args.bytes.now (omega arith)
 
-pub returns-then-leads-with-zero : goal.returns-then-leads-with-zero
-returns-then-leads-with-zero c =
-    let zero = c.leads-with-zero.ensures.0 c.if-leads-with-zero.true in
+pub returns-then-leads_with_zero : goal.returns-then-leads_with_zero
+returns-then-leads_with_zero c =
+    let zero = c.leads_with_zero.ensures.0 c.if-leads_with_zero.true in
     not_zero_first c.args.bytes.now zero.0 zero.1
 
-pub returns-in-err-n : goal.returns-in-err-n
-returns-in-err-n c =
-    rw c.from-residual.ensures (not_digit c.args.bytes.now c.loop-byte.byte-index (omega arith) c.in-err-n.ensures)
+pub returns-in_err-n : goal.returns-in_err-n
+returns-in_err-n c =
+    rw c.from_residual.ensures (not_digit c.args.bytes.now c.loop-byte.byte-index (omega arith) c.in_err-n.ensures)
 
 pub loop-byte-preserved : goal.loop-byte-preserved
 loop-byte-preserved c =
     let bytes = c.args.bytes.now in
     let i = c.loop-byte.byte-index in
-    let d = c.in-ok-n.ensures in
+    let d = c.in_ok-n.ensures in
     let value = d.1 in (
       below_more _ _ c.loop-byte.invariant.0 d.0,
       rw value (sym (at_drop_more (read_on c.loop-byte.n) bytes i 0 (omega arith)) ∙ c.loop-byte.invariant.1),
@@ -39,10 +39,10 @@ pub returns : goal.returns
 returns c =
     let bytes = c.args.bytes.now in
     let e = sym (at_drop_all (read_on c.loop-byte.n) bytes c.loop-byte.byte-index (omega arith)) ∙ c.loop-byte.invariant.1 in
-    let some = eqb-false (length bytes) 0 (sym c.if-is-empty.ensures) in
+    let some = eqb-false (length bytes) 0 (sym c.if-is_empty.ensures) in
     is_number bytes c.loop-byte.n (λ k h. c.loop-byte.invariant.0 k (omega arith)) (omega (arith, some))
     (λ zero. ⊎_elim
-    (λ more. absurd (both_ways c.leads-with-zero.result c.if-leads-with-zero.false (c.leads-with-zero.ensures.1 (zero, more))))
+    (λ more. absurd (both_ways c.leads_with_zero.result c.if-leads_with_zero.false (c.leads_with_zero.ensures.1 (zero, more))))
     (λ one. omega (arith, some))
     (cases_lt 1 (length bytes)))
     (sym e) (omega arith)

@@ -10,8 +10,8 @@ pub returns : goal.returns
 unfolding rest
 returns c =
     let one = c.next-word.ensures.left ∙ ap rest c.of-rest.ensures in
-    let two = c.next-number.ensures.left ∙ ap rest one in
-    let three = c.next-number-2.ensures.left ∙ ap rest two in
-    let over = at_none c.next.result _ _ c.if-is-some.ensures c.next.ensures.field in
-    pair_texts (fields c.args.line.now) c.in-Some.i c.in-Some-next-number.j
-    (rw one at c.in-Some.ensures.number) (rw two at c.in-Some-next-number.ensures.number) (sym three ∙ over)
+    let two = c.next_number.ensures.left ∙ ap rest one in
+    let three = c.next_number-2.ensures.left ∙ ap rest two in
+    let over = at_none c.next.result _ _ c.if-is_some.ensures c.next.ensures.field in
+    pair_texts (fields c.args.line.now) c.in-Some.i c.in-Some-next_number.j
+    (rw one at c.in-Some.ensures.number) (rw two at c.in-Some-next_number.ensures.number) (sym three ∙ over)

@@ -6,7 +6,7 @@ use Rattle.files.proofs.Rising.{length_each_more}
 use Rattle.files.proofs.profile.profile_len.Goals as goal
 
 pub loop-a-init : goal.loop-a-init
-loop-a-init c = let head = ap length c.profile-head.ensures in (omega arith, omega arith)
+loop-a-init c = let head = ap length c.profile_head.ensures in (omega arith, omega arith)
 
 pub loop-a-preserved : goal.loop-a-preserved
 loop-a-preserved c =

@@ -8,8 +8,8 @@ use Rattle.files.proofs.profile.put_imager.Goals as goal
 pub loop-i-init : goal.loop-i-init
 loop-i-init c = puts_none c.args.out.now c.args.at (omega arith)
 
-pub put-lens-end-requires : goal.put-lens-end-requires
-put-lens-end-requires c =
+pub put_lens-end-requires : goal.put_lens-end-requires
+put_lens-end-requires c =
     let t = c.args.contents.now in
     let next = each_next (lens_of t c.args.a) c.loop-i.i (baselines_of t) (omega arith) in
     let whole = ap length (imager_each t c.args.a) in
@@ -20,7 +20,7 @@ loop-i-preserved c =
     let t = c.args.contents.now in
     let next = each_next (lens_of t c.args.a) c.loop-i.i (baselines_of t) (omega arith) in
     let whole = ap length (imager_each t c.args.a) in
-    puts_more (lens_of t c.args.a) c.loop-i.i c.loop-i.invariant c.put-lens-end.ensures (omega arith)
+    puts_more (lens_of t c.args.a) c.loop-i.i c.loop-i.invariant c.put_lens-end.ensures (omega arith)
 
 pub returns : goal.returns
 returns c =

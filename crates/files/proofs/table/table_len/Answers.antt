@@ -6,7 +6,7 @@ use Rattle.files.proofs.Rising.{length_each_more}
 use Rattle.files.proofs.table.table_len.Goals as goal
 
 pub loop-i-init : goal.loop-i-init
-loop-i-init c = let head = ap length c.table-head.ensures in (omega arith, omega arith)
+loop-i-init c = let head = ap length c.table_head.ensures in (omega arith, omega arith)
 
 pub loop-i-preserved : goal.loop-i-preserved
 loop-i-preserved c =
