@@ -17,7 +17,7 @@ pub fn enlist<L: Ledger>(
     reply: &mut [u8],
 ) -> Result<usize, Refusal>
     requires { 4096 ≤ length reply.old }
-    ensures served { Served L.Evidence L.Ledger survey.old (Request.Enlist span) reply.old reply.new result survey.new }
+    ensures served { Served L.Evidence L.Ledger.own survey.old (Request.Enlist span) reply.old reply.new result survey.new }
     ensures small { IfErr result (λ e. detail_of e < 65536) }
 {
     let baseline = survey.enlist(span)?;
@@ -39,7 +39,7 @@ pub fn share<L: Ledger>(
     reply: &mut [u8],
 ) -> Result<usize, Refusal>
     requires { 4096 ≤ length reply.old }
-    ensures served { Served L.Evidence L.Ledger survey.old (Request.Share i j) reply.old reply.new result survey.new }
+    ensures served { Served L.Evidence L.Ledger.own survey.old (Request.Share i j) reply.old reply.new result survey.new }
     ensures small { IfErr result (λ e. detail_of e < 65536) }
 {
     let changed = survey.share(i as usize, j as usize)?;
@@ -54,7 +54,7 @@ pub fn part<L: Ledger>(
     reply: &mut [u8],
 ) -> Result<usize, Refusal>
     requires { 4096 ≤ length reply.old }
-    ensures served { Served L.Evidence L.Ledger survey.old (Request.Part i j) reply.old reply.new result survey.new }
+    ensures served { Served L.Evidence L.Ledger.own survey.old (Request.Part i j) reply.old reply.new result survey.new }
     ensures small { IfErr result (λ e. detail_of e < 65536) }
 {
     let changed = survey.part(i as usize, j as usize)?;
@@ -64,7 +64,7 @@ pub fn part<L: Ledger>(
 // Resolves the survey, and replies the numbers of imagers and of doubtful baselines.
 pub fn resolve<L: Ledger>(survey: &mut Survey<L>, reply: &mut [u8]) -> Result<usize, Refusal>
     requires { 4096 ≤ length reply.old }
-    ensures served { Served L.Evidence L.Ledger survey.old Request.Resolve reply.old reply.new result survey.new }
+    ensures served { Served L.Evidence L.Ledger.own survey.old Request.Resolve reply.old reply.new result survey.new }
     ensures small { IfErr result (λ e. detail_of e < 65536) }
 {
     let found = survey.resolve()?;

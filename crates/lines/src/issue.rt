@@ -12,7 +12,7 @@ use survey::Survey;
 // the issue, and there is room for both files, so nothing is refused but the begin.
 pub fn issue<L: Ledger>(survey: &mut Survey<L>, reply: &mut [u8]) -> Result<usize, Refusal>
     requires { 4096 ≤ length reply.old }
-    ensures served { Served L.Evidence L.Ledger survey.old Request.Issue reply.old reply.new result survey.new }
+    ensures served { Served L.Evidence L.Ledger.own survey.old Request.Issue reply.old reply.new result survey.new }
     ensures small { IfErr result (λ e. detail_of e < 65536) }
 {
     let opening = survey.begin()?;

@@ -23,7 +23,7 @@ pub fn line<L: Ledger>(
     number: u16,
     reply: &mut [u8],
 ) -> Result<usize, Fault>
-    ensures replied { Lined L.Evidence L.Ledger survey.old bytes.now number reply.old reply.new result survey.new }
+    ensures replied { Lined L.Evidence L.Ledger.own survey.old bytes.now number reply.old reply.new result survey.new }
     ensures within { IfOk result (λ n. n ≤ length reply.old) }
 {
     if reply.len() < REPLY {
@@ -38,7 +38,7 @@ pub fn line<L: Ledger>(
 // Answers the bytes of a line. Where they are refused, nothing is written.
 fn answer<L: Ledger>(survey: &mut Survey<L>, bytes: &[u8], reply: &mut [u8]) -> Result<usize, Fault>
     requires { 4096 ≤ length reply.old }
-    ensures answered { Answered L.Evidence L.Ledger survey.old bytes.now reply.old reply.new result survey.new }
+    ensures answered { Answered L.Evidence L.Ledger.own survey.old bytes.now reply.old reply.new result survey.new }
     ensures small { IfErr result (λ fault. detail_of fault < 65536) }
 {
     let request = read_request(bytes)?;
@@ -52,7 +52,7 @@ fn serve<L: Ledger>(
     reply: &mut [u8],
 ) -> Result<usize, Refusal>
     requires { 4096 ≤ length reply.old }
-    ensures served { Served L.Evidence L.Ledger survey.old request reply.old reply.new result survey.new }
+    ensures served { Served L.Evidence L.Ledger.own survey.old request reply.old reply.new result survey.new }
     ensures small { IfErr result (λ e. refusal-detail e < 65536) }
 {
     match request {

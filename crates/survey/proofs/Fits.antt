@@ -32,7 +32,7 @@ take_below (suc m) (x ∷ xs) n p h zero = h 0
 take_below (suc m) (x ∷ xs) n p h (suc i) = take_below m xs n p (λ j. h (suc j)) i
 
 -- both files of an issue that is begun have room in 4,096 bytes
-pub both_fit : {L : Type 0} (e : EvidenceGhosts L) (g : LedgerGhosts L) (s : Survey L) (begun : ℕ) (stage : Stage) → begun ≤ 9999
+pub both_fit : {L : Type 0} (e : EvidenceGhosts L) (g : LedgerGhosts L) (s : Survey L g e) (begun : ℕ) (stage : Stage) → begun ≤ 9999
     → length (profile_text (with_issue (view e g s) begun stage)) + length (table_text (with_issue (view e g s) begun stage)) ≤ 4096
 both_fit e g s begun stage b =
     let n = (e.meaning s.ledger).count in

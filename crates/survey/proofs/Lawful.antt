@@ -34,7 +34,7 @@ find : (n most : ℕ) (newer older : List Event) (x : Event) → Past n most (ne
 find n most [] older x p = p.0
 find n most (y ∷ newer) older x p = find n most newer older x p.1
 
-module _ {L : Type 0} (e : EvidenceGhosts L) (g : LedgerGhosts L) (n most : ℕ) (start : Survey L) (fresh : Fresh n most (view e g start)) where
+module _ {L : Type 0} (e : EvidenceGhosts L) (g : LedgerGhosts L) (n most : ℕ) (start : Survey L g e) (fresh : Fresh n most (view e g start)) where
   first : Tells n most [] (view e g start)
   first = record {
     kept = start.kept;
@@ -57,7 +57,7 @@ module _ {L : Type 0} (e : EvidenceGhosts L) (g : LedgerGhosts L) (n most : ℕ)
   }
 
   -- one event more
-  known : (s t : Survey L) (h : List Event) (x : Event) → Tells n most (accepted h) (view e g s) → Step (view e g s) x (view e g t) → At n most h x
+  known : (s t : Survey L g e) (h : List Event) (x : Event) → Tells n most (accepted h) (view e g s) → Step (view e g s) x (view e g t) → At n most h x
   known s t h x k st = record {
     kept = k.kept;
     imagers = k.imagers;
@@ -67,7 +67,7 @@ module _ {L : Type 0} (e : EvidenceGhosts L) (g : LedgerGhosts L) (n most : ℕ)
     took = subst (λ v. Step v x (view e g t)) k.is st;
   }
 
-  past : {h : List Event} {t : Survey L} → Run e g start h t → Tells n most (accepted h) (view e g t) × Past n most h
+  past : {h : List Event} {t : Survey L g e} → Run e g start h t → Tells n most (accepted h) (view e g t) × Past n most h
   unfolding known
   past opened = (first, tt)
   past (step {h} {s} t x run st) =
@@ -105,17 +105,17 @@ module _ {L : Type 0} (e : EvidenceGhosts L) (g : LedgerGhosts L) (n most : ℕ)
       }
 
 -- both clauses of `open`, from the first
-pub opens : {L : Type 0} (e : EvidenceGhosts L) (g : LedgerGhosts L) (n most : ℕ) (s : Survey L) → Fresh n most (view e g s)
+pub opens : {L : Type 0} (e : EvidenceGhosts L) (g : LedgerGhosts L) (n most : ℕ) (s : Survey L g e) → Fresh n most (view e g s)
     → record { fresh : Fresh n most (view e g s); lawful : Lawful e g n most s }
 opens e g n most s fresh = record { fresh = fresh; lawful = lawful e g n most s fresh }
 
 -- both clauses of a call, from the first
-pub goes_on : {L : Type 0} (e : EvidenceGhosts L) (g : LedgerGhosts L) (s t : Survey L) (x : Event) → Step (view e g s) x (view e g t)
+pub goes_on : {L : Type 0} (e : EvidenceGhosts L) (g : LedgerGhosts L) (s t : Survey L g e) (x : Event) → Step (view e g s) x (view e g t)
     → record { told : Step (view e g s) x (view e g t); run : Extends e g s x t }
 goes_on e g s t x st = record { told = st; run = λ start h r. step t x r st }
 
 -- both clauses of a call that only asks
-pub asks_on : {L : Type 0} (e : EvidenceGhosts L) (g : LedgerGhosts L) (s : Survey L) (x : Event) (T : Type 0)
+pub asks_on : {L : Type 0} (e : EvidenceGhosts L) (g : LedgerGhosts L) (s : Survey L g e) (x : Event) (T : Type 0)
     → (T × (view e g s ≡ view e g s) → Step (view e g s) x (view e g s)) → T
     → record { told : T; run : Extends e g s x s }
 asks_on e g s x T puts told = record { told = told; run = λ start h r. step s x r (puts (told, refl)) }

@@ -23,7 +23,7 @@ abbrev pub Within : List Event → Event → List Event → Type 0
 Within h x older = (newer : List Event) × (h ≡ newer ++ (x ∷ older))
 
 module _ {L : Type 0} (e : EvidenceGhosts L) (g : LedgerGhosts L) (n most : ℕ) where
-  pub record Law (h : List Event) (t : Survey L) : Type 0 where
+  pub record Law (h : List Event) (t : Survey L g e) : Type 0 where
     -- Each call was refused exactly as the history before it says.
     pub refused : (x : Event) (older : List Event) → Within h x older → Refused n most (accepted older) x
     -- Each accepted call answered what the history before it says.
@@ -53,5 +53,5 @@ module _ {L : Type 0} (e : EvidenceGhosts L) (g : LedgerGhosts L) (n most : ℕ)
         → (text : List ℕ) × TableOf n (accepted older) text × (k ≡ length text) × (new ≡ splice old at text)
 
   -- Every run from a survey keeps the law.
-  abbrev pub Lawful : Survey L → Type 0
-  Lawful s = (h : List Event) (t : Survey L) → Run e g s h t → Law h t
+  abbrev pub Lawful : Survey L g e → Type 0
+  Lawful s = (h : List Event) (t : Survey L g e) → Run e g s h t → Law h t

@@ -25,10 +25,10 @@ Step v (AskCommon i j r) w = CommonTold v i j r × (w ≡ v)
 Step v (AskDoubt i r) w = DoubtTold v i r × (w ≡ v)
 
 module _ {L : Type 0} (e : EvidenceGhosts L) (g : LedgerGhosts L) where
-  pub data Run (start : Survey L) : List Event → Survey L → Type 0 where
+  pub data Run (start : Survey L g e) : List Event → Survey L g e → Type 0 where
     opened : Run start [] start
-    step : {h : List Event} {s : Survey L} (t : Survey L) (x : Event) → Run start h s → Step (view e g s) x (view e g t) → Run start (x ∷ h) t
+    step : {h : List Event} {s : Survey L g e} (t : Survey L g e) (x : Event) → Run start h s → Step (view e g s) x (view e g t) → Run start (x ∷ h) t
 
   -- Any run to the one survey goes on by the event to the other.
-  abbrev pub Extends : Survey L → Event → Survey L → Type 0
-  Extends s x t = (start : Survey L) (h : List Event) → Run start h s → Run start (x ∷ h) t
+  abbrev pub Extends : Survey L g e → Event → Survey L g e → Type 0
+  Extends s x t = (start : Survey L g e) (h : List Event) → Run start h s → Run start (x ∷ h) t

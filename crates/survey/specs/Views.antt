@@ -23,7 +23,7 @@ pub record View : Type 0 where
   pub stage : Stage
 
 module _ {L : Type 0} (e : EvidenceGhosts L) (g : LedgerGhosts L) where
-  abbrev pub view : Survey L → View
+  abbrev pub view : Survey L g e → View
   view s = record {
     number = s.number;
     table = e.meaning s.ledger;

@@ -14,8 +14,8 @@ impl<L: Ledger> Survey<L> {
     /// The two imagers of a baseline, the lower first. Refused with 12 where the number is not below the count, else with 15
     /// where the survey is not resolved.
     pub fn ends(&self, i: usize) -> Result<(u8, u8), Refusal>
-        ensures told { EndsTold (view L.Evidence L.Ledger self.now) i result }
-        ensures run { Extends L.Evidence L.Ledger self.now (AskEnds i result) self.now }
+        ensures told { EndsTold (view L.Evidence L.Ledger.own self.now) i result }
+        ensures run { Extends L.Evidence L.Ledger.own self.now (AskEnds i result) self.now }
     {
         match self.entry_of(i) {
             Ok(entry) => Ok((entry.lower, entry.higher)),
@@ -26,8 +26,8 @@ impl<L: Ledger> Survey<L> {
     /// The imager that two baselines have together, if they have one. Refused with 12 where a number is not below the count,
     /// else with 13 where the two are equal, else with 15 where the survey is not resolved.
     pub fn common(&self, i: usize, j: usize) -> Result<Option<u8>, Refusal>
-        ensures told { CommonTold (view L.Evidence L.Ledger self.now) i j result }
-        ensures run { Extends L.Evidence L.Ledger self.now (AskCommon i j result) self.now }
+        ensures told { CommonTold (view L.Evidence L.Ledger.own self.now) i j result }
+        ensures run { Extends L.Evidence L.Ledger.own self.now (AskCommon i j result) self.now }
     {
         let count = self.ledger.count();
         if i >= count || j >= count {
@@ -45,8 +45,8 @@ impl<L: Ledger> Survey<L> {
     /// Whether a baseline is doubtful. Refused with 12 where the number is not below the count, else with 15 where the survey
     /// is not resolved.
     pub fn doubtful(&self, i: usize) -> Result<bool, Refusal>
-        ensures told { DoubtTold (view L.Evidence L.Ledger self.now) i result }
-        ensures run { Extends L.Evidence L.Ledger self.now (AskDoubt i result) self.now }
+        ensures told { DoubtTold (view L.Evidence L.Ledger.own self.now) i result }
+        ensures run { Extends L.Evidence L.Ledger.own self.now (AskDoubt i result) self.now }
     {
         match self.entry_of(i) {
             Ok(entry) => Ok(entry.doubtful),
@@ -56,7 +56,7 @@ impl<L: Ledger> Survey<L> {
 
     // What is kept of a baseline.
     fn entry_of(&self, i: usize) -> Result<Entry, Refusal>
-        ensures { EntryTold (view L.Evidence L.Ledger self.now) i result }
+        ensures { EntryTold (view L.Evidence L.Ledger.own self.now) i result }
     {
         if i >= self.ledger.count() {
             return Err(Refusal::PastCount);

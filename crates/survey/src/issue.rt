@@ -22,9 +22,9 @@ impl<L: Ledger> Survey<L> {
     /// issue is open, else with 15 where the survey is not resolved, else with 16 after 9,999 issues. The two files of the
     /// issue have at most 4,096 bytes together.
     pub fn begin(&mut self) -> Result<Opening, Refusal>
-        ensures told { Began (view L.Evidence L.Ledger self.old) result (view L.Evidence L.Ledger self.new) }
-        ensures run { Extends L.Evidence L.Ledger self.old (Begin result) self.new }
-        ensures room { OnOk result (length (profile_text (view L.Evidence L.Ledger self.new)) + length (table_text (view L.Evidence L.Ledger self.new)) ≤ 4096) }
+        ensures told { Began (view L.Evidence L.Ledger.own self.old) result (view L.Evidence L.Ledger.own self.new) }
+        ensures run { Extends L.Evidence L.Ledger.own self.old (Begin result) self.new }
+        ensures room { OnOk result (length (profile_text (view L.Evidence L.Ledger.own self.new)) + length (table_text (view L.Evidence L.Ledger.own self.new)) ≤ 4096) }
     {
         if !self.is_idle() {
             return Err(Refusal::IssueOpen);
@@ -49,8 +49,8 @@ impl<L: Ledger> Survey<L> {
         buffer: &mut [u8],
         place: usize,
     ) -> Result<(Closing, usize), (Opening, Refusal)>
-        ensures told { ProfileWritten (view L.Evidence L.Ledger self.old) paper place buffer.old buffer.new result (view L.Evidence L.Ledger self.new) }
-        ensures run { Extends L.Evidence L.Ledger self.old (WriteProfile paper place buffer.old buffer.new result) self.new }
+        ensures told { ProfileWritten (view L.Evidence L.Ledger.own self.old) paper place buffer.old buffer.new result (view L.Evidence L.Ledger.own self.new) }
+        ensures run { Extends L.Evidence L.Ledger.own self.old (WriteProfile paper place buffer.old buffer.new result) self.new }
     {
         if !self.admits_opening(&paper) {
             return Err((paper, Refusal::WrongPaper));
@@ -73,8 +73,8 @@ impl<L: Ledger> Survey<L> {
         buffer: &mut [u8],
         place: usize,
     ) -> Result<usize, (Closing, Refusal)>
-        ensures told { TableWritten (view L.Evidence L.Ledger self.old) paper place buffer.old buffer.new result (view L.Evidence L.Ledger self.new) }
-        ensures run { Extends L.Evidence L.Ledger self.old (WriteTable paper place buffer.old buffer.new result) self.new }
+        ensures told { TableWritten (view L.Evidence L.Ledger.own self.old) paper place buffer.old buffer.new result (view L.Evidence L.Ledger.own self.new) }
+        ensures run { Extends L.Evidence L.Ledger.own self.old (WriteTable paper place buffer.old buffer.new result) self.new }
     {
         if !self.admits_closing(&paper) {
             return Err((paper, Refusal::WrongPaper));
@@ -92,8 +92,8 @@ impl<L: Ledger> Survey<L> {
     /// Ends the open issue and writes nothing. Refused with 17 where the paper is not that of the open issue at its stage; the
     /// paper is then handed back.
     pub fn withdraw(&mut self, paper: Paper) -> Result<(), (Paper, Refusal)>
-        ensures told { Withdrew (view L.Evidence L.Ledger self.old) paper result (view L.Evidence L.Ledger self.new) }
-        ensures run { Extends L.Evidence L.Ledger self.old (Withdraw paper result) self.new }
+        ensures told { Withdrew (view L.Evidence L.Ledger.own self.old) paper result (view L.Evidence L.Ledger.own self.new) }
+        ensures run { Extends L.Evidence L.Ledger.own self.old (Withdraw paper result) self.new }
     {
         if !self.admits(&paper) {
             return Err((paper, Refusal::WrongPaper));
@@ -105,7 +105,7 @@ impl<L: Ledger> Survey<L> {
 
     // Whether this opening paper is that of the open issue, whose profile is not written.
     fn admits_opening(&self, paper: &Opening) -> bool
-        ensures { result ≡ admits_opening (view L.Evidence L.Ledger self.now) paper.now }
+        ensures { result ≡ admits_opening (view L.Evidence L.Ledger.own self.now) paper.now }
     {
         let awaits = match self.stage {
             Stage::Begun => true,
@@ -116,7 +116,7 @@ impl<L: Ledger> Survey<L> {
 
     // Whether this closing paper is that of the open issue, whose profile is written.
     fn admits_closing(&self, paper: &Closing) -> bool
-        ensures { result ≡ admits_closing (view L.Evidence L.Ledger self.now) paper.now }
+        ensures { result ≡ admits_closing (view L.Evidence L.Ledger.own self.now) paper.now }
     {
         let awaits = match self.stage {
             Stage::Profiled => true,
@@ -127,7 +127,7 @@ impl<L: Ledger> Survey<L> {
 
     // Whether this paper is that of the open issue at its stage.
     fn admits(&self, paper: &Paper) -> bool
-        ensures { result ≡ admits (view L.Evidence L.Ledger self.now) paper.now }
+        ensures { result ≡ admits (view L.Evidence L.Ledger.own self.now) paper.now }
     {
         match paper {
             Paper::Opens(opening) => self.admits_opening(opening),
@@ -137,15 +137,15 @@ impl<L: Ledger> Survey<L> {
 
     // Whether these are the numbers of this survey and of its latest issue.
     fn is_latest(&self, survey: u16, issue: u16) -> bool
-        ensures { result ≡ is_latest (view L.Evidence L.Ledger self.now) survey issue }
+        ensures { result ≡ is_latest (view L.Evidence L.Ledger.own self.now) survey issue }
     {
         (survey == self.number) & (issue == self.begun)
     }
 
     // What the files of the open issue tell.
     fn contents(&self) -> Contents<'_>
-        ensures profile { profile_of result ≡ profile_text (view L.Evidence L.Ledger self.now) }
-        ensures table { table_of result ≡ table_text (view L.Evidence L.Ledger self.now) }
+        ensures profile { profile_of result ≡ profile_text (view L.Evidence L.Ledger.own self.now) }
+        ensures table { table_of result ≡ table_text (view L.Evidence L.Ledger.own self.now) }
     {
         let count = self.ledger.count();
         Contents {

@@ -13,8 +13,8 @@ impl<L: Ledger> Survey<L> {
     /// Enlists a baseline of this span, answers its number, and makes the survey unresolved. Refused with 9 while an issue is
     /// open, else with 10 where the span is 0, else with 11 at 64 baselines.
     pub fn enlist(&mut self, span: u16) -> Result<usize, Refusal>
-        ensures told { Enlisted (view L.Evidence L.Ledger self.old) span result (view L.Evidence L.Ledger self.new) }
-        ensures run { Extends L.Evidence L.Ledger self.old (Enlist span result) self.new }
+        ensures told { Enlisted (view L.Evidence L.Ledger.own self.old) span result (view L.Evidence L.Ledger.own self.new) }
+        ensures run { Extends L.Evidence L.Ledger.own self.old (Enlist span result) self.new }
     {
         if !self.is_idle() {
             return Err(Refusal::IssueOpen);
@@ -32,8 +32,8 @@ impl<L: Ledger> Survey<L> {
     /// while an issue is open, else with 12 where a number is not below the count, else with 13 where the two are equal, else
     /// with 14 where there is no room for a new sharing pair.
     pub fn share(&mut self, i: usize, j: usize) -> Result<bool, Refusal>
-        ensures told { Marked (view L.Evidence L.Ledger self.old) i j true result (view L.Evidence L.Ledger self.new) }
-        ensures run { Extends L.Evidence L.Ledger self.old (Share i j result) self.new }
+        ensures told { Marked (view L.Evidence L.Ledger.own self.old) i j true result (view L.Evidence L.Ledger.own self.new) }
+        ensures run { Extends L.Evidence L.Ledger.own self.old (Share i j result) self.new }
     {
         self.mark(i, j, true)
     }
@@ -41,15 +41,15 @@ impl<L: Ledger> Survey<L> {
     /// Marks that two baselines do not share, and answers whether they did; a change makes the survey unresolved. Refused
     /// with 9 while an issue is open, else with 12 where a number is not below the count, else with 13 where the two are equal.
     pub fn part(&mut self, i: usize, j: usize) -> Result<bool, Refusal>
-        ensures told { Marked (view L.Evidence L.Ledger self.old) i j false result (view L.Evidence L.Ledger self.new) }
-        ensures run { Extends L.Evidence L.Ledger self.old (Part i j result) self.new }
+        ensures told { Marked (view L.Evidence L.Ledger.own self.old) i j false result (view L.Evidence L.Ledger.own self.new) }
+        ensures run { Extends L.Evidence L.Ledger.own self.old (Part i j result) self.new }
     {
         self.mark(i, j, false)
     }
 
     // Gives a pair the wanted state.
     fn mark(&mut self, i: usize, j: usize, on: bool) -> Result<bool, Refusal>
-        ensures { Marked (view L.Evidence L.Ledger self.old) i j on result (view L.Evidence L.Ledger self.new) }
+        ensures { Marked (view L.Evidence L.Ledger.own self.old) i j on result (view L.Evidence L.Ledger.own self.new) }
     {
         if !self.is_idle() {
             return Err(Refusal::IssueOpen);

@@ -16,8 +16,8 @@ impl<L: Ledger> Survey<L> {
     /// Finds the layout of the survey and keeps it, and answers how many imagers and how many doubtful baselines there are.
     /// Refused with 9 while an issue is open, else with 18 where a cluster has no layout; the survey is then as it was.
     pub fn resolve(&mut self) -> Result<Resolution, Refusal>
-        ensures told { Resolved (view L.Evidence L.Ledger self.old) result (view L.Evidence L.Ledger self.new) }
-        ensures run { Extends L.Evidence L.Ledger self.old (Resolve result) self.new }
+        ensures told { Resolved (view L.Evidence L.Ledger.own self.old) result (view L.Evidence L.Ledger.own self.new) }
+        ensures run { Extends L.Evidence L.Ledger.own self.old (Resolve result) self.new }
         ensures few { IfOk result (λ found. (found.imagers ≤ 128) × (found.doubtful ≤ 64)) }
     {
         if !self.is_idle() {

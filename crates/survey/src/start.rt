@@ -12,8 +12,8 @@ impl<L: Ledger> Survey<L> {
     /// Opens a survey: no baselines, unresolved, no issue begun. The ledger is cleared. Every run of calls from here keeps the
     /// law of surveys.
     pub fn open(number: u16, ledger: L) -> Survey<L>
-        ensures fresh { Fresh number (L.Ledger.most ledger) (view L.Evidence L.Ledger result) }
-        ensures lawful { Lawful L.Evidence L.Ledger number (L.Ledger.most ledger) result }
+        ensures fresh { Fresh number (L.Ledger.most ledger) (view L.Evidence L.Ledger.own result) }
+        ensures lawful { Lawful L.Evidence L.Ledger.own number (L.Ledger.most ledger) result }
     {
         let mut ledger = ledger;
         ledger.clear();

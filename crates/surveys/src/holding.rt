@@ -11,8 +11,8 @@ use survey::{Closing, Opening, Paper, Survey};
 
 /// Ends the open issue by its paper.
 pub fn put_away<L: Ledger>(survey: &mut Survey<L>, paper: Paper)
-    requires { admits (view L.Evidence L.Ledger survey.old) paper ≡ true }
-    ensures { view L.Evidence L.Ledger survey.new ≡ at_stage (view L.Evidence L.Ledger survey.old) Idle }
+    requires { admits (view L.Evidence L.Ledger.own survey.old) paper ≡ true }
+    ensures { view L.Evidence L.Ledger.own survey.new ≡ at_stage (view L.Evidence L.Ledger.own survey.old) Idle }
 {
     match survey.withdraw(paper) {
         Ok(()) => {}
@@ -22,14 +22,14 @@ pub fn put_away<L: Ledger>(survey: &mut Survey<L>, paper: Paper)
 
 /// Begins an issue.
 pub fn begin<L: Ledger>(survey: &mut Survey<L>) -> Result<Opening, Refusal>
-    ensures { IfOk result (λ p. admits_opening (view L.Evidence L.Ledger survey.new) p ≡ true) }
+    ensures { IfOk result (λ p. admits_opening (view L.Evidence L.Ledger.own survey.new) p ≡ true) }
 {
     survey.begin()
 }
 
 /// Begins an issue, withdraws it and answers its number. While an issue is open, the survey stays the same.
 pub fn begin_and_withdraw<L: Ledger>(survey: &mut Survey<L>) -> Result<u16, Refusal>
-    ensures { idle (view L.Evidence L.Ledger survey.old).stage ≡ false → view L.Evidence L.Ledger survey.new ≡ view L.Evidence L.Ledger survey.old }
+    ensures { idle (view L.Evidence L.Ledger.own survey.old).stage ≡ false → view L.Evidence L.Ledger.own survey.new ≡ view L.Evidence L.Ledger.own survey.old }
 {
     let opening = survey.begin()?;
     let issue = opening.issue();
@@ -44,8 +44,8 @@ pub fn profile<L: Ledger>(
     buffer: &mut [u8],
     place: usize,
 ) -> Result<(Closing, usize), Refusal>
-    requires { admits_opening (view L.Evidence L.Ledger survey.old) paper ≡ true }
-    ensures { IfOk result (λ a. admits_closing (view L.Evidence L.Ledger survey.new) a.0 ≡ true) }
+    requires { admits_opening (view L.Evidence L.Ledger.own survey.old) paper ≡ true }
+    ensures { IfOk result (λ a. admits_closing (view L.Evidence L.Ledger.own survey.new) a.0 ≡ true) }
 {
     match survey.profile(paper, buffer, place) {
         Ok(written) => Ok(written),
@@ -63,7 +63,7 @@ pub fn table<L: Ledger>(
     buffer: &mut [u8],
     place: usize,
 ) -> Result<usize, Refusal>
-    requires { admits_closing (view L.Evidence L.Ledger survey.old) paper ≡ true }
+    requires { admits_closing (view L.Evidence L.Ledger.own survey.old) paper ≡ true }
 {
     match survey.table(paper, buffer, place) {
         Ok(bytes) => Ok(bytes),
@@ -82,7 +82,7 @@ pub fn no_profile<L: Ledger>(
     buffer: &mut [u8],
     place: usize,
 ) -> Result<(Opening, Refusal), usize>
-    ensures { IfOk result (λ a. (a.0 ≡ paper) × (view L.Evidence L.Ledger survey.new ≡ view L.Evidence L.Ledger survey.old)) }
+    ensures { IfOk result (λ a. (a.0 ≡ paper) × (view L.Evidence L.Ledger.own survey.new ≡ view L.Evidence L.Ledger.own survey.old)) }
 {
     match survey.profile(paper, buffer, place) {
         Ok((closing, bytes)) => {
@@ -101,7 +101,7 @@ pub fn no_table<L: Ledger>(
     buffer: &mut [u8],
     place: usize,
 ) -> Result<(Closing, Refusal), usize>
-    ensures { IfOk result (λ a. (a.0 ≡ paper) × (view L.Evidence L.Ledger survey.new ≡ view L.Evidence L.Ledger survey.old)) }
+    ensures { IfOk result (λ a. (a.0 ≡ paper) × (view L.Evidence L.Ledger.own survey.new ≡ view L.Evidence L.Ledger.own survey.old)) }
 {
     match survey.table(paper, buffer, place) {
         Ok(bytes) => Err(bytes),
@@ -119,8 +119,8 @@ fn number<T: Drop>(answer: Result<T, Refusal>) -> u8 {
 
 /// The refusals of what an open issue does not admit: to enlist, share, part, resolve and begin.
 pub fn meanwhile<L: Ledger>(survey: &mut Survey<L>) -> [u8; 5]
-    requires { idle (view L.Evidence L.Ledger survey.old).stage ≡ false }
-    ensures { view L.Evidence L.Ledger survey.new ≡ view L.Evidence L.Ledger survey.old }
+    requires { idle (view L.Evidence L.Ledger.own survey.old).stage ≡ false }
+    ensures { view L.Evidence L.Ledger.own survey.new ≡ view L.Evidence L.Ledger.own survey.old }
 {
     [
         number(survey.enlist(700)),

@@ -15,8 +15,8 @@ use survey::{Opening, Paper, Survey};
 // What a survey answers to a paper that it does not admit: the refusals of its file and of withdrawing it. The paper is
 // handed back.
 fn shown<L: Ledger>(survey: &mut Survey<L>, paper: Paper) -> (Paper, [Refusal; 2])
-    requires { admits (view L.Evidence L.Ledger survey.old) paper ≡ false }
-    ensures { (result.0 ≡ paper) × (view L.Evidence L.Ledger survey.new ≡ view L.Evidence L.Ledger survey.old) }
+    requires { admits (view L.Evidence L.Ledger.own survey.old) paper ≡ false }
+    ensures { (result.0 ≡ paper) × (view L.Evidence L.Ledger.own survey.new ≡ view L.Evidence L.Ledger.own survey.old) }
 {
     let (paper, file) = match paper {
         Paper::Opens(opening) => match survey.profile(opening, &mut [0; 90], 0) {
@@ -39,8 +39,8 @@ fn begin_both<L: Ledger>(
     home: &mut Survey<L>,
     other: &mut Survey<L>,
 ) -> Result<(Opening, Opening), Refusal>
-    ensures own { IfOk result (λ a. admits_opening (view L.Evidence L.Ledger home.new) a.0 ≡ true) }
-    ensures foreign { IfOk result (λ a. admits_opening (view L.Evidence L.Ledger other.new) a.1 ≡ true) }
+    ensures own { IfOk result (λ a. admits_opening (view L.Evidence L.Ledger.own home.new) a.0 ≡ true) }
+    ensures foreign { IfOk result (λ a. admits_opening (view L.Evidence L.Ledger.own other.new) a.1 ≡ true) }
 {
     let own = begin(home)?;
     match begin(other) {

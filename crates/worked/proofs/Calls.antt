@@ -26,16 +26,16 @@ refuses (Err x) e q = let same : x ≡ e = cc in ap Err same
 
 module _ {L : Type 0} (e : EvidenceGhosts L) (g : LedgerGhosts L) (n : ℕ) where
   -- nothing is done in a survey that is just opened
-  pub first : (most : ℕ) (s : Survey L) → 1 ≤ most → Lawful e g n most s → After e g n [] s
+  pub first : (most : ℕ) (s : Survey L g e) → 1 ≤ most → Lawful e g n most s → After e g n [] s
   first most s room lawful = record { most = most; room = room; start = s; history = []; lawful = lawful; run = opened; did = refl }
 
   -- What the law says of one call more.
-  pub record Next (most : ℕ) (d : List Deed) (x : Event) (t : Survey L) : Type 0 where
+  pub record Next (most : ℕ) (d : List Deed) (x : Event) (t : Survey L g e) : Type 0 where
     pub refused : Refused n most d x
     pub answered : Answered n d x
     pub after : After e g n (noted x d) t
 
-  module _ (d : List Deed) (s t : Survey L) (a : After e g n d s) where
+  module _ (d : List Deed) (s t : Survey L g e) (a : After e g n d s) where
     pub next : (x : Event) → Extends e g s x t → Next a.most d x t
     next x goes =
         let run = goes a.start a.history a.run in

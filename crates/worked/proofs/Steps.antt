@@ -37,7 +37,7 @@ opens n p is = ap (right_opening n open_deeds) is ∙ (let e = eq-eqb n n refl i
 closes : (n : ℕ) (p : Closing) → p ≡ closing n 1 → right_closing n profile_deeds p ≡ true
 closes n p is = ap (right_closing n profile_deeds) is ∙ (let e = eq-eqb n n refl in rw e)
 
-module _ {L : Type 0} (e : EvidenceGhosts L) (g : LedgerGhosts L) (s t : Survey L) where
+module _ {L : Type 0} (e : EvidenceGhosts L) (g : LedgerGhosts L) (s t : Survey L g e) where
   -- a right paper is not handed back
   pub kept : (p back : Paper) (refusal : Refusal) → Rightful e g s p → Extends e g s (Withdraw p (Err (back, refusal))) t → ⊥
   kept p back refusal (n, d, a, is_right) goes =
@@ -98,7 +98,7 @@ module _ {L : Type 0} (e : EvidenceGhosts L) (g : LedgerGhosts L) (s t : Survey 
           )
 
 -- the table, right after the profile
-module _ {L : Type 0} (e : EvidenceGhosts L) (g : LedgerGhosts L) (r s t : Survey L) (n : ℕ) (p : Closing) (k : ℕ) (old mid new : List ℕ) (l : Left e g r s n p k old mid) where
+module _ {L : Type 0} (e : EvidenceGhosts L) (g : LedgerGhosts L) (r s t : Survey L g e) (n : ℕ) (p : Closing) (k : ℕ) (old mid new : List ℕ) (l : Left e g r s n p k old mid) where
   pub table_written : (m : ℕ) → Extends e g s (WriteTable p k mid new (Ok m)) t → Issued n old new (Ok (record { profile = k; table = m })) × Over e g n t
   table_written m goes =
       let x = next e g n _ s t l.after (WriteTable p k mid new (Ok m)) goes in

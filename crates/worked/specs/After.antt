@@ -9,10 +9,10 @@ use Rattle.survey.specs.Law.{Lawful}
 
 -- A run led to the survey from one that keeps the law, and its accepted calls did these deeds, the newest first. The survey
 -- has the number n, and its ledger has room for a sharing pair.
-pub record After {L : Type 0} (e : EvidenceGhosts L) (g : LedgerGhosts L) (n : ℕ) (deeds : List Deed) (s : Survey L) : Type 0 where
+pub record After {L : Type 0} (e : EvidenceGhosts L) (g : LedgerGhosts L) (n : ℕ) (deeds : List Deed) (s : Survey L g e) : Type 0 where
   pub most : ℕ
   pub room : 1 ≤ most
-  pub start : Survey L
+  pub start : Survey L g e
   pub history : List Event
   pub lawful : Lawful e g n most start
   pub run : Run e g start history s

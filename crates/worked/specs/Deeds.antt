@@ -31,9 +31,9 @@ shared = marked 1 0 true false ∷ (marked 0 1 true true ∷ (enlisted 620 ∷ (
 
 module _ {L : Type 0} (e : EvidenceGhosts L) (g : LedgerGhosts L) where
   -- Of a survey in which nothing was done yet, the marks are as told.
-  abbrev pub MarksRight : Survey L → Marks → Survey L → Type 0
+  abbrev pub MarksRight : Survey L g e → Marks → Survey L g e → Type 0
   MarksRight s r t = (n : ℕ) → After e g n [] s → (r ≡ the_marks) × After e g n shared t
 
   -- Of a survey of two baselines that share, the tellings are as told.
-  abbrev pub TellingsRight : Survey L → Tellings → Survey L → Type 0
+  abbrev pub TellingsRight : Survey L g e → Tellings → Survey L g e → Type 0
   TellingsRight s r t = (n : ℕ) → After e g n shared s → (r ≡ the_tellings) × After e g n (resolved ∷ shared) t

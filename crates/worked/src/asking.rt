@@ -8,7 +8,7 @@ use survey::Survey;
 
 // Asks before the survey is resolved, resolves it, and asks again.
 pub(crate) fn ask<L: Ledger>(survey: &mut Survey<L>) -> Tellings
-    ensures { TellingsRight L.Evidence L.Ledger survey.old result survey.new }
+    ensures { TellingsRight L.Evidence L.Ledger.own survey.old result survey.new }
 {
     Tellings {
         early: survey.ends(0),

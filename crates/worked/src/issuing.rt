@@ -11,8 +11,8 @@ pub(crate) fn issue<L: Ledger>(
     survey: &mut Survey<L>,
     buffer: &mut [u8],
 ) -> Result<Lengths, Refusal>
-    requires { Ready L.Evidence L.Ledger survey.old }
-    ensures { IssueRight L.Evidence L.Ledger survey.old buffer.old buffer.new result survey.new }
+    requires { Ready L.Evidence L.Ledger.own survey.old }
+    ensures { IssueRight L.Evidence L.Ledger.own survey.old buffer.old buffer.new result survey.new }
 {
     let opening = survey.begin()?;
     match survey.profile(opening, buffer, 0) {
@@ -32,8 +32,8 @@ pub(crate) fn issue<L: Ledger>(
 
 // Withdraws the paper of the open issue.
 fn withdraw<L: Ledger>(survey: &mut Survey<L>, paper: Paper)
-    requires { Rightful L.Evidence L.Ledger survey.old paper }
-    ensures { WithdrawRight L.Evidence L.Ledger survey.old survey.new }
+    requires { Rightful L.Evidence L.Ledger.own survey.old paper }
+    ensures { WithdrawRight L.Evidence L.Ledger.own survey.old survey.new }
 {
     match survey.withdraw(paper) {
         Ok(()) => {}

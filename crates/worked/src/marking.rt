@@ -8,7 +8,7 @@ use survey::Survey;
 
 // Enlists two baselines, and marks twice that they share, in either order.
 pub(crate) fn mark<L: Ledger>(survey: &mut Survey<L>) -> Marks
-    ensures { MarksRight L.Evidence L.Ledger survey.old result survey.new }
+    ensures { MarksRight L.Evidence L.Ledger.own survey.old result survey.new }
 {
     Marks {
         first: survey.enlist(500),

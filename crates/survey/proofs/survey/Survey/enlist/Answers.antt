@@ -40,4 +40,8 @@ returns-then-span-eq0 g c = goes_on g.L.Evidence g.L.Ledger _ _ _ (search rules)
 pub invariant_of-self-2 : goal.invariant_of-self-2
 invariant_of-self-2 g c =
     let s = c.args.self.now in
-    (s.numbers, (set_below s.spans c.in_ok-baseline.baseline c.args.span 65536 s.lengths (search rules), (s.chips, tt)))
+    record {
+      numbers = s.numbers;
+      lengths = set_below s.spans c.in_ok-baseline.baseline c.args.span 65536 s.lengths (search rules);
+      chips = s.chips;
+    }

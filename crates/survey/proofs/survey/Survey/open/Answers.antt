@@ -8,4 +8,8 @@ pub returns : goal.returns
 returns g c = opens g.L.Evidence g.L.Ledger c.args.number (g.L.Ledger.most c.args.ledger) _ (search rules)
 
 pub invariant_of-result : goal.invariant_of-result
-invariant_of-result g c = ((search rules, search rules), (λ i. rw (copies {A = ℕ} 64 i 0) (omega arith), (λ i. rw (c.new.ensures, copies 64 i blank) (omega arith, omega arith), tt)))
+invariant_of-result g c = record {
+  numbers = (search rules, search rules);
+  lengths = λ i. rw (copies {A = ℕ} 64 i 0) (omega arith);
+  chips = λ i. rw (c.new.ensures, copies 64 i blank) (omega arith, omega arith);
+}
