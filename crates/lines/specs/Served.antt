@@ -51,22 +51,22 @@ Replies v bytes number old new (Err fault) made w =
 
 module _ {L : Type 0} (e : EvidenceGhosts L) (g : LedgerGhosts L) where
   -- Any run to the one survey goes on by these calls, the newest first, to the other.
-  abbrev pub GoesOn : SurveyOver L → List Event → SurveyOver L → Type 0
-  GoesOn s made t = (start : SurveyOver L) (h : List Event) → Run e g start h s → Run e g start (made ++ h) t
+  abbrev pub GoesOn : SurveyOver L g e → List Event → SurveyOver L g e → Type 0
+  GoesOn s made t = (start : SurveyOver L g e) (h : List Event) → Run e g start h s → Run e g start (made ++ h) t
 
   -- A request was served.
-  abbrev pub Served : SurveyOver L → Request → List ℕ → List ℕ → Result ℕ Refusal → SurveyOver L → Type 0
+  abbrev pub Served : SurveyOver L g e → Request → List ℕ → List ℕ → Result ℕ Refusal → SurveyOver L g e → Type 0
   Served s request old new r t =
       (made : List Event) × (a : Result (List ℕ) Refusal)
       × Serves (view e g s) request made a (view e g t) × Put a old new r × GoesOn s made t
 
   -- The bytes of a line were answered.
-  abbrev pub Answered : SurveyOver L → List ℕ → List ℕ → List ℕ → Result ℕ Fault → SurveyOver L → Type 0
+  abbrev pub Answered : SurveyOver L g e → List ℕ → List ℕ → List ℕ → Result ℕ Fault → SurveyOver L g e → Type 0
   Answered s bytes old new r t =
       (made : List Event) × (a : Result (List ℕ) Fault)
       × AnswersLine (view e g s) bytes made a (view e g t) × Put a old new r × GoesOn s made t
 
   -- A line was replied to: what was answered, and the calls that were made extend any run.
-  abbrev pub Lined : SurveyOver L → List ℕ → ℕ → List ℕ → List ℕ → Result ℕ Fault → SurveyOver L → Type 0
+  abbrev pub Lined : SurveyOver L g e → List ℕ → ℕ → List ℕ → List ℕ → Result ℕ Fault → SurveyOver L g e → Type 0
   Lined s bytes number old new r t =
       (made : List Event) × Replies (view e g s) bytes number old new r made (view e g t) × GoesOn s made t

@@ -59,14 +59,14 @@ module _ {L : Type 0} (e : EvidenceGhosts L) (g : LedgerGhosts L) (n : ℕ) wher
         → (text : List ℕ) × ProfileOf n d text × (k ≡ length text) × (new ≡ splice old at text)
     profile_left p at k old new given goes =
         subst (λ x. (text : List ℕ) × ProfileOf n x text × (k ≡ length text) × (new ≡ splice old at text)) a.did (
-        (a.lawful _ t (goes a.start a.history a.run)).profiles-written p at k old new given a.history ([], refl)
+        (a.lawful _ t (goes a.start a.history a.run)).profiles_written p at k old new given a.history ([], refl)
         )
 
     pub table_left : (p : Closing) (at k : ℕ) (old new : List ℕ) → Extends e g s (WriteTable p at old new (Ok k)) t
         → (text : List ℕ) × TableOf n d text × (k ≡ length text) × (new ≡ splice old at text)
     table_left p at k old new goes =
         subst (λ x. (text : List ℕ) × TableOf n x text × (k ≡ length text) × (new ≡ splice old at text)) a.did (
-        (a.lawful _ t (goes a.start a.history a.run)).tables-written p at k old new a.history ([], refl)
+        (a.lawful _ t (goes a.start a.history a.run)).tables_written p at k old new a.history ([], refl)
         )
 
     -- a call whose questions are all answered yes, and the value that it owes

@@ -11,22 +11,22 @@ returns-in-Resolve c = line_of_fields _ _ _ c.in-Some.ensures (one_field _ _ (se
 pub returns-in-Issue : goal.returns-in-Issue
 returns-in-Issue c = line_of_fields _ _ _ c.in-Some.ensures (one_field _ _ (search rules) (search rules))
 
-pub returns-in_ok-read_span : goal.returns-in_ok-read_span
-returns-in_ok-read_span c =
+pub returns-in_ok-read_span-in-Enlist : goal.returns-in_ok-read_span-in-Enlist
+returns-in_ok-read_span-in-Enlist c =
     line_of_fields _ _ _ c.in-Some.ensures (two_fields _ _ _ (search rules) (search rules) (search rules))
 
-pub returns-in_ok-i : goal.returns-in_ok-i
-returns-in_ok-i c =
-    let pair = c.in_ok-i.ensures in
+pub returns-in_ok-i-in-Share : goal.returns-in_ok-i-in-Share
+returns-in_ok-i-in-Share c =
+    let pair = c.in_ok-i-in-Share.ensures in
     line_of_fields _ _ _ c.in-Some.ensures (pair_fields _ _ pair.0 _ _ pair.1 (search rules))
 
-pub returns-in_ok-i-2 : goal.returns-in_ok-i-2
-returns-in_ok-i-2 c =
-    let pair = c.in_ok-i-2.ensures in
+pub returns-in_ok-i-in-Part : goal.returns-in_ok-i-in-Part
+returns-in_ok-i-in-Part c =
+    let pair = c.in_ok-i-in-Part.ensures in
     line_of_fields _ _ _ c.in-Some.ensures (pair_fields _ _ pair.0 _ _ pair.1 (search rules))
 
-pub returns-in_err-read_span : goal.returns-in_err-read_span
-returns-in_err-read_span c =
+pub returns-in_err-read_span-in-Enlist : goal.returns-in_err-read_span-in-Enlist
+returns-in_err-read_span-in-Enlist c =
     let p = err_from_is_err_and c.from_residual.result c.from_residual.ensures.1 in
     let text = c.in-Some.text.now in
     rw (p.1, p.2) (
@@ -34,29 +34,29 @@ returns-in_err-read_span c =
       Enlist,
       ((text, c.in-Some.ensures, refl), search rules),
       search rules,
-      wrong_of_one (fields text) _ (search rules) c.in_err-read_span.ensures,
+      wrong_of_one (fields text) _ (search rules) c.in_err-read_span-in-Enlist.ensures,
     )
 
-pub returns-in_err-i : goal.returns-in_err-i
-returns-in_err-i c =
-    let p = err_from_is_err_and c.from_residual-in_err-i.result c.from_residual-in_err-i.ensures.1 in
+pub returns-in_err-i-in-Share : goal.returns-in_err-i-in-Share
+returns-in_err-i-in-Share c =
+    let p = err_from_is_err_and c.from_residual-in_err-i-in-Share.result c.from_residual-in_err-i-in-Share.ensures.1 in
     let text = c.in-Some.text.now in
     rw (p.1, p.2) (
       fields text,
       Share,
       ((text, c.in-Some.ensures, refl), search rules),
       search rules,
-      wrong_of_pair (fields text) _ (search rules) c.in_err-i.ensures,
+      wrong_of_pair (fields text) _ (search rules) c.in_err-i-in-Share.ensures,
     )
 
-pub returns-in_err-i-2 : goal.returns-in_err-i-2
-returns-in_err-i-2 c =
-    let p = err_from_is_err_and c.from_residual-in_err-i-2.result c.from_residual-in_err-i-2.ensures.1 in
+pub returns-in_err-i-in-Part : goal.returns-in_err-i-in-Part
+returns-in_err-i-in-Part c =
+    let p = err_from_is_err_and c.from_residual-in_err-i-in-Part.result c.from_residual-in_err-i-in-Part.ensures.1 in
     let text = c.in-Some.text.now in
     rw (p.1, p.2) (
       fields text,
       Part,
       ((text, c.in-Some.ensures, refl), search rules),
       search rules,
-      wrong_of_pair (fields text) _ (search rules) c.in_err-i-2.ensures,
+      wrong_of_pair (fields text) _ (search rules) c.in_err-i-in-Part.ensures,
     )

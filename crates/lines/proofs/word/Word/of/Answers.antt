@@ -2,17 +2,17 @@ use Rattle.std.proofs.Common.{codes, rules}
 use Rattle.std.proofs.lemmas.Slice.Eq.{text_from_reads}
 use Rattle.lines.proofs.word.Word.of.Goals as goal
 
-pub returns-in-101 : goal.returns-in-101
-returns-in-101 c = text_from_reads _ (codes "enlist") (search rules) (search rules)
+pub returns-in-enlist : goal.returns-in-enlist
+returns-in-enlist c = text_from_reads _ (codes "enlist") (search rules) (search rules)
 
-pub returns-in-115 : goal.returns-in-115
-returns-in-115 c = text_from_reads _ (codes "share") (search rules) (search rules)
+pub returns-in-share : goal.returns-in-share
+returns-in-share c = text_from_reads _ (codes "share") (search rules) (search rules)
 
-pub returns-in-112 : goal.returns-in-112
-returns-in-112 c = text_from_reads _ (codes "part") (search rules) (search rules)
+pub returns-in-part : goal.returns-in-part
+returns-in-part c = text_from_reads _ (codes "part") (search rules) (search rules)
 
-pub returns-in-114 : goal.returns-in-114
-returns-in-114 c = text_from_reads _ (codes "resolve") (search rules) (search rules)
+pub returns-in-resolve : goal.returns-in-resolve
+returns-in-resolve c = text_from_reads _ (codes "resolve") (search rules) (search rules)
 
-pub returns-in-105 : goal.returns-in-105
-returns-in-105 c = text_from_reads _ (codes "issue") (search rules) (search rules)
+pub returns-in-issue : goal.returns-in-issue
+returns-in-issue c = text_from_reads _ (codes "issue") (search rules) (search rules)
