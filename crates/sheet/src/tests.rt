@@ -87,7 +87,7 @@ fn short_buffer(rt: HostRuntime) {
     assert!(rt; reply[0] == 7);
     let mut reply = [7; 4096];
     assert_eq!(rt; line(&mut survey, b"enlist,5\n", 2, &mut reply), Ok(5));
-    assert!(rt; &reply[0..6] == b"ok,0\n\x07");
+    assert!(rt; &reply[0..6] == b"ok,0\n\x07".as_slice());
     assert_eq!(rt; line(&mut survey, b"", 65535, &mut reply), Ok(15));
-    assert!(rt; &reply[0..16] == b"no,65535,2,0,T\n\x07");
+    assert!(rt; &reply[0..16] == b"no,65535,2,0,T\n\x07".as_slice());
 }

@@ -78,7 +78,7 @@ fn share_many<L: Ledger>(survey: &mut Survey<L>) -> (usize, Option<Refusal>) {
 }
 
 #[test]
-fn marks_over_a_grid(rt: HostRuntime) {
+fn over_a_grid(rt: HostRuntime) {
     let mut survey = Survey::open(1, WordGrid::new());
     enlist_four(&rt, &mut survey);
     refusals(&rt, &mut survey);
@@ -87,7 +87,7 @@ fn marks_over_a_grid(rt: HostRuntime) {
 }
 
 #[test]
-fn marks_over_a_list(rt: HostRuntime) {
+fn over_a_list(rt: HostRuntime) {
     let mut survey = Survey::open(1, PairList::new());
     enlist_four(&rt, &mut survey);
     refusals(&rt, &mut survey);

@@ -16,7 +16,7 @@ fn files_come_out<L: Ledger + Drop>(rt: &impl Abort, roomy: L, tight: L) -> Resu
     let answers = two_baselines(7, roomy, &mut buffer);
     assert_eq!(rt; answers.marks.second, Ok(1));
     assert!(rt; answers.tellings.second == Ok((0, 2)));
-    assert!(rt; buffer == FILES);
+    assert!(rt; buffer.as_slice() == FILES);
     match answers.lengths {
         Ok(lengths) => assert!(rt; lengths.profile == 48 && lengths.table == 36),
         Err(_) => return Err(Fail::new("refused")),
