@@ -1,5 +1,5 @@
 -- How many pairs of baselines share.
-use Rattle.std.specs.Prelude.{ℕ, zero, suc, ◌+◌, Bool, cond}
+use Rattle.std.specs.Prelude.{ℕ, zero, suc, ◌+◌, cond}
 use Rattle.evidence.specs.Table.{Table}
 
 -- The sum of f over the numbers below n.

@@ -1,8 +1,8 @@
 -- The table of a square: a count n, and n rows of n bytes.
-use Rattle.std.specs.Prelude.{◌≡◌, ℕ, ◌+◌, ◌*◌, ◌<◌, ◌≤◌, Bool, true, false, cond, not, ◌&&◌, List, length, ◌==◌, nat_lt, slice_index, refl}
-use Rattle.std.proofs.Common.{sym, ap, ◌∙◌, ⊎_elim, arith}
+use Rattle.std.specs.Prelude.{ℕ, ◌+◌, ◌*◌, ◌<◌, ◌≤◌, Bool, cond, not, ◌&&◌, List, length, ◌==◌, nat_lt, slice_index, refl}
+use Rattle.std.proofs.Common.{⊎_elim, arith}
 use Rattle.std.proofs.Math.Bool.{and_comm}
-use Rattle.std.proofs.lemmas.Bool.{le-ltb, ltb-true, eq-eqb, and_right, and_left, and_parts, cases_Bool}
+use Rattle.std.proofs.lemmas.Bool.{le-ltb, ltb-true, eq-eqb, and_right, and_parts, cases_Bool}
 use Rattle.evidence.specs.Table.{Table, Sound}
 use Rattle.evidence.specs.Drawing.{eqb_comm}
 

@@ -1,5 +1,5 @@
 -- The meaning of evidence: a table of sharing.
-use Rattle.std.specs.Prelude.{◌≡◌, ℕ, ◌<◌, ◌≤◌, Bool, true, false}
+use Rattle.std.specs.Prelude.{◌≡◌, ℕ, ◌≤◌, Bool, false}
 
 -- How many baselines there are, numbered from 0, and which two of them share an imager.
 pub record Table : Type 0 where

@@ -1,5 +1,5 @@
 -- The table that a grid of words holds.
-use Rattle.std.specs.Prelude.{ℕ, Bool, List, slice_index_or}
+use Rattle.std.specs.Prelude.{ℕ, List, slice_index_or}
 use Rattle.bitset.specs.declared.set.BaselineSet.{BaselineSet}
 use Rattle.bitset.specs.Sets.{has}
 use Rattle.evidence.specs.Table.{Table}

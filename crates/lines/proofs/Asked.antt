@@ -1,5 +1,5 @@
 -- What the fields of a line say of it.
-use Rattle.std.proofs.Common.{◌≡◌, ℕ, zero, suc, ◌+◌, ◌<◌, List, [], ◌∷◌, ◌++◌, length, get_or, decimal, sym, refl, ap, ◌∙◌, subst, arith}
+use Rattle.std.proofs.Common.{◌≡◌, ℕ, zero, suc, ◌<◌, List, [], ◌∷◌, ◌++◌, length, get_or, decimal, sym, ap, ◌∙◌, arith}
 use Rattle.files.specs.Line.{line, parted}
 use Rattle.files.specs.Pair.{PairWrong, FirstWrong}
 use Rattle.files.specs.Reading.{NotNumber, fields}

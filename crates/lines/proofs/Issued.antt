@@ -1,5 +1,5 @@
 -- An issue that is begun, written out and ended.
-use Rattle.std.proofs.Common.{◌≡◌, ℕ, ◌+◌, ◌≤◌, List, ◌++◌, length, Ok, sym, refl, ap, ◌∙◌, arith}
+use Rattle.std.proofs.Common.{◌≡◌, ℕ, ◌+◌, ◌≤◌, List, ◌++◌, length, Ok, sym, ap, ◌∙◌, arith}
 use Rattle.files.specs.Writing.{Puts}
 use Rattle.files.proofs.Splices.{puts_then}
 use Rattle.survey.specs.declared.opening.Opening.{Opening}

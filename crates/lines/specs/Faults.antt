@@ -1,8 +1,6 @@
 -- Why a line is refused: the number, the detail and the layer.
 use Rattle.std.specs.Prelude.{ℕ}
-use Rattle.evidence.specs.declared.refusal.Refusal.{Refusal}
 use Rattle.evidence.specs.Refusals.{number_of as refusal-number, detail_of as refusal-detail}
-use Rattle.lines.specs.declared.fault.TextFault.{TextFault}
 use Rattle.lines.specs.declared.fault.TextFault.TheVariants.{ShortReply, NoEnd, UnknownWord, FieldCount, NotNumber}
 use Rattle.lines.specs.declared.fault.Fault.{Fault}
 use Rattle.lines.specs.declared.fault.Fault.TheVariants.{Text, Survey}

@@ -1,5 +1,5 @@
 -- The words of the sheet.
-use Rattle.std.specs.Prelude.{◌≡◌, ℕ, List, codes, ◌≢◌}
+use Rattle.std.specs.Prelude.{ℕ, List, codes, ◌≢◌}
 use Rattle.lines.specs.declared.word.Word.{Word}
 use Rattle.lines.specs.declared.word.Word.TheVariants.{Enlist, Share, Part, Resolve, Issue}
 

@@ -8,7 +8,7 @@ use Rattle.theory.specs.declared.record.Record.{Record}
 use Rattle.theory.specs.Placed.{Solved}
 use Rattle.theory.specs.Record.{ends_of, doubt_of}
 use Rattle.survey.specs.declared.survey.Survey.{Survey}
-use Rattle.survey.specs.Views.{View, view, Fresh, idle}
+use Rattle.survey.specs.Views.{View, view, Fresh}
 use Rattle.survey.specs.History.{Event, Resolve, WriteProfile, WriteTable, accepted, table_of, is_resolved, is_open, profiles}
 use Rattle.survey.specs.Runs.{Step, Run, opened, step, Extends}
 use Rattle.survey.specs.Law.{Lawful, Within}

@@ -1,5 +1,5 @@
 -- The law of every run, in the words of its history.
-use Rattle.std.specs.Prelude.{◌≡◌, ℕ, ◌+◌, ◌<◌, true, false, ◌↔◌, List, ◌∷◌, ◌++◌, length, Ok, Err, Result}
+use Rattle.std.specs.Prelude.{◌≡◌, ℕ, ◌<◌, true, false, ◌↔◌, List, ◌∷◌, ◌++◌, length, Ok, Err, Result}
 use Rattle.evidence.specs.declared.evidence.Evidence.{Ghosts as EvidenceGhosts}
 use Rattle.evidence.specs.declared.ledger.Ledger.{Ghosts as LedgerGhosts}
 use Rattle.evidence.specs.declared.refusal.Refusal.{Refusal}

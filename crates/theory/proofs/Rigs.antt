@@ -1,8 +1,8 @@
 -- The worked rigs: the search finds each outcome, so the definitions yield it.
-use Rattle.std.proofs.Common.{◌≡◌, ℕ, ◌<◌, ◌≤◌, Bool, true, false, not, ◌&&◌, ◌||◌, eqb, ltb, List, [], ◌∷◌, get_or, Some, None, Option, sym, refl, ap, ◌∙◌, subst, ap₂, ⊎_elim, arith}
+use Rattle.std.proofs.Common.{◌≡◌, ℕ, ◌≤◌, Bool, true, false, not, ◌&&◌, eqb, ltb, List, [], ◌∷◌, get_or, Some, None, Option, sym, refl, ap, subst, ap₂, arith}
 use mathlib.Core.Bool.{beq}
 use lib.Count.{count_trailing_zeros}
-use Rattle.std.proofs.lemmas.Bool.{and_parts, and_from, or_from, ltb-true, eqb-true, both_ways, cases_Bool, not-true}
+use Rattle.std.proofs.lemmas.Bool.{and_parts, or_from, ltb-true, eqb-true, both_ways}
 use Rattle.std.proofs.lemmas.Bool.Decides.{nat_tests}
 use Rattle.bitset.specs.Sets.{has, minus, set_of}
 use Rattle.evidence.specs.Table.{Table, Sound}

@@ -1,9 +1,8 @@
 -- An answer is told by what it says of the baselines below the count.
-use Rattle.std.proofs.Common.{◌≡◌, ℕ, ◌<◌, Bool, true, ◌≢◌, ◌↔◌, sym, ap, ◌∙◌, subst, ap₂, subst₂, arith}
+use Rattle.std.proofs.Common.{◌≡◌, ℕ, ◌<◌, Bool, ◌≢◌, ◌↔◌, sym, ap, ◌∙◌, subst, ap₂, subst₂, arith}
 use Rattle.evidence.specs.Table.{Table}
 use Rattle.theory.specs.Layout.{Ends, stands, in_common, Layout}
-use Rattle.theory.specs.Groups.{Three, Trio, Agree, Rising, Leads, Chosen}
-use Rattle.theory.specs.Clusters.{Doubtful}
+use Rattle.theory.specs.Groups.{Three, Trio, Rising, Leads}
 use Rattle.theory.specs.Numbers.{Ahead, Numbered}
 use Rattle.theory.specs.Placed.{Solved}
 use Rattle.theory.proofs.Order.{same_list}

@@ -1,17 +1,17 @@
 -- The search is right, for every sound table.
-use Rattle.std.proofs.Common.{◌≡◌, ℕ, zero, suc, ◌^◌, ◌<◌, ◌≤◌, Bool, true, false, cond, not, ◌≢◌, ◌⊎◌, List, [], ◌∷◌, Some, None, Option, sym, refl, ap, ◌∙◌, subst, inl, inr, ⊎_elim, arith}
+use Rattle.std.proofs.Common.{◌≡◌, ℕ, ◌^◌, ◌<◌, Bool, true, false, cond, not, List, [], ◌∷◌, Some, Option, sym, refl, ap, ◌∙◌, subst, ⊎_elim, arith}
 use mathlib.Core.List.{Memᴰ}
-use Rattle.std.proofs.lemmas.Bool.{both_ways, cases_Bool, cases_lt, cases_eq}
+use Rattle.std.proofs.lemmas.Bool.{both_ways, cases_lt}
 use Rattle.evidence.specs.Table.{Table, Sound}
 use Rattle.theory.specs.Clusters.{Reach, here}
 use Rattle.bitset.specs.Sets.{has}
-use Rattle.theory.specs.Stars.{far, Stars, star}
+use Rattle.theory.specs.Stars.{far, Stars}
 use Rattle.theory.specs.Walks.{root}
 use Rattle.theory.specs.Search.{attempt, passing, is_nil, Settled}
 use Rattle.theory.specs.Answer.{first_start, other_starts, near_of, contested, unsettled}
 use Rattle.theory.specs.Placed.{Clash}
 use Rattle.theory.specs.Theorems.{SearchRight}
-use Rattle.theory.proofs.Reaches.{reach_join, reach_below}
+use Rattle.theory.proofs.Reaches.{reach_join}
 use Rattle.theory.proofs.Roots.{root_reach, root_below, root_least, root_same, root_root}
 use Rattle.theory.proofs.Cluster.{attempt_start, member_stars}
 use Rattle.theory.proofs.LowestThat.{lowest_none, lowest_some}

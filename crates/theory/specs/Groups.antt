@@ -1,5 +1,5 @@
 -- How layouts group baselines three by three, and which layout is chosen.
-use Rattle.std.specs.Prelude.{◌≡◌, ℕ, ◌<◌, Bool, true, ◌&&◌, ◌||◌, ◌≢◌, ◌⊎◌, ◌↔◌}
+use Rattle.std.specs.Prelude.{◌≡◌, ℕ, ◌<◌, Bool, true, ◌&&◌, ◌||◌, ◌⊎◌, ◌↔◌}
 use Rattle.evidence.specs.Table.{Table}
 use Rattle.theory.specs.Layout.{Ends, stands, Layout}
 

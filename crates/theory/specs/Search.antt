@@ -1,5 +1,5 @@
 -- The search, as functions on sets of baselines. docs/layout.md tells it in words.
-use Rattle.std.specs.Prelude.{◌≡◌, ℕ, zero, suc, ◌^◌, Bool, true, false, cond, not, ◌&&◌, ◌||◌, List, [], ◌∷◌, Some, None, Option, ◌==◌, bit_and, bit_or}
+use Rattle.std.specs.Prelude.{◌≡◌, ℕ, zero, suc, Bool, true, false, cond, not, ◌&&◌, ◌||◌, List, [], ◌∷◌, Some, None, Option, ◌==◌, bit_and, bit_or}
 use Rattle.bitset.specs.Sets.{has, minus, single, lowest}
 use Rattle.evidence.specs.Table.{Table}
 use Rattle.theory.specs.Clusters.{Reach}

@@ -1,5 +1,5 @@
 -- A walk through the cluster of a baseline, and the cluster as a set.
-use Rattle.std.specs.Prelude.{◌≡◌, ℕ, zero, suc, ◌^◌, Bool, true, false, cond, not, ◌&&◌, List, [], ◌∷◌, ◌==◌, bit_and, bit_or}
+use Rattle.std.specs.Prelude.{◌≡◌, ℕ, zero, suc, true, false, cond, not, ◌&&◌, List, [], ◌∷◌, ◌==◌, bit_and, bit_or}
 use Rattle.bitset.specs.Sets.{has, single, lowest, set_of}
 use Rattle.evidence.specs.Table.{Table}
 use Rattle.theory.specs.Stars.{row}

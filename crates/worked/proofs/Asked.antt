@@ -1,5 +1,5 @@
 -- What a survey of two baselines that share answers when it is resolved and asked.
-use Rattle.std.proofs.Common.{◌≡◌, ℕ, ◌<◌, Bool, true, false, ◌↔◌, IfOk, Some, None, Ok, Err, Option, Result, sym, refl, ap, ◌∙◌, ap₂, ⊎_elim, arith}
+use Rattle.std.proofs.Common.{◌≡◌, ℕ, ◌<◌, Bool, true, false, ◌↔◌, IfOk, None, Result, ◌∙◌, ap₂, ⊎_elim}
 use Rattle.std.proofs.lemmas.Result.{IfOk-weaker}
 use Rattle.evidence.specs.declared.refusal.Refusal.{Refusal}
 use Rattle.theory.specs.Layout.{Ends}
@@ -7,7 +7,6 @@ use Rattle.theory.specs.Clusters.{Doubtful}
 use Rattle.theory.proofs.Whole.{layout_by_clusters}
 use Rattle.survey.specs.declared.survey.Resolution.{Resolution}
 use Rattle.survey.specs.History.{Resolve, table_of}
-use Rattle.survey.specs.Told.{together}
 use Rattle.survey.specs.Resolves.{how_many}
 use Rattle.survey.specs.Refusing.{Refused, refusal}
 use Rattle.survey.specs.Answering.{Answered, ByLayout}

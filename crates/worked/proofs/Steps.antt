@@ -1,5 +1,5 @@
 -- The issue of the two files, call by call, by the law.
-use Rattle.std.proofs.Common.{◌≡◌, ℕ, ◌≤◌, true, List, [], ◌∷◌, length, Some, None, Ok, Err, refl, ap, ◌∙◌, subst, zero-add, arith}
+use Rattle.std.proofs.Common.{◌≡◌, ℕ, ◌≤◌, true, List, [], ◌∷◌, length, Ok, Err, refl, ap, ◌∙◌, subst, zero-add, arith}
 use Rattle.std.proofs.lemmas.Bool.{eq-eqb}
 use Rattle.evidence.specs.declared.evidence.Evidence.{Ghosts as EvidenceGhosts}
 use Rattle.evidence.specs.declared.ledger.Ledger.{Ghosts as LedgerGhosts}

@@ -1,4 +1,4 @@
-use Rattle.std.proofs.Common.{sym, refl, inl, inr, arith}
+use Rattle.std.proofs.Common.{sym, refl, inl, inr}
 use Rattle.std.proofs.lemmas.Result.{err_from_is_err_and}
 use Rattle.host.proofs.Forms.{form_by_bytes, place_small, clash_small}
 use Rattle.host.proofs.entry.place_square.Goals as goal

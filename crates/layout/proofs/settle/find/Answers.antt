@@ -1,6 +1,6 @@
 use Rattle.std.proofs.Common.{Some, sym, ◌∙◌, subst}
 use Rattle.std.proofs.lemmas.Bool.{cond-true, cond-false}
-use Rattle.layout.specs.Order.{Next, Between, left}
+use Rattle.layout.specs.Order.{Next, Between}
 use Rattle.layout.specs.Told.{told}
 use Rattle.layout.proofs.Preferred.{none_left, next_left, next_between, next_start, next_falls}
 use Rattle.layout.proofs.settle.find.Goals as goal

@@ -1,4 +1,4 @@
-use Rattle.std.proofs.Common.{arith, rules}
+use Rattle.std.proofs.Common.{rules}
 use Rattle.lines.proofs.Told.{told_ok, told_no, has_room}
 use Rattle.lines.proofs.serve.line.Goals as goal
 
