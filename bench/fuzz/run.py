@@ -1,6 +1,6 @@
 """Holds the C entry and the program `sheet` against the slow model: run.py SEED SECONDS [valgrind]
 
-Needs target/staticlib/libhost.a (rt staticlib host) and target/bin/sheet (rt check sheet). Prints how many cases agreed; the
+Needs target/staticlib/libhost.a (tools/staticlib) and crates/sheet/out/sheet (rt run in crates/sheet). Prints how many cases agreed; the
 first that does not is printed whole, and the status is then 1. With `valgrind` the entry's cases run under it.
 """
 
@@ -15,7 +15,7 @@ import model
 
 ROOT = Path(__file__).resolve().parents[2]
 DRIVER = ROOT / "target" / "bench" / "fuzz_entry"
-SHEET = ROOT / "target" / "bin" / "sheet"
+SHEET = ROOT / "crates" / "sheet" / "out" / "sheet"
 
 
 def drawn(rng, n, imagers):
