@@ -77,12 +77,12 @@ module _ (imagers : ℕ) (spans : List ℕ) (ends : ℕ → Ends) (few : imagers
             five (get_or spans i 0) (small i l),
           )
 
--- so both files have room in 4,096 bytes, where an imager is any number of a byte
+-- so both files have at most 3,297 bytes, where an imager is any number of a byte
 pub bytes_fit : (survey issue imagers : ℕ) (spans : List ℕ) (ends : ℕ → Ends) (doubtful : ℕ → Bool)
     → survey < 65536 → issue ≤ 9999 → imagers < 256 → length spans ≤ 64
     → ((i : ℕ) → i < length spans → get_or spans i 0 < 65536)
     → ((i : ℕ) → i < length spans → ((ends i).0 < 256) × ((ends i).1 < 256))
-    → length (profile_bytes survey issue imagers spans ends) + length (table_bytes survey issue spans ends doubtful) ≤ 4096
+    → length (profile_bytes survey issue imagers spans ends) + length (table_bytes survey issue spans ends doubtful) ≤ 3297
 bytes_fit survey issue imagers spans ends doubtful s k few short small within =
     omega (
       arith,
@@ -98,8 +98,11 @@ bytes_fit survey issue imagers spans ends doubtful s k few short small within =
       rows_le imagers spans ends few short small doubtful within,
     )
 
--- and so where there are at most 128 imagers
+-- and so they have room in 4,096, where there are at most 128 imagers
 pub files_fit : FilesFit
 files_fit survey issue imagers spans ends doubtful s k few short small within =
-    bytes_fit survey issue imagers spans ends doubtful s k (omega arith) short small
-    (λ i l. (omega (arith, (within i l).0), omega (arith, (within i l).1)))
+    omega (
+      arith,
+      bytes_fit survey issue imagers spans ends doubtful s k (omega arith) short small
+          (λ i l. (omega (arith, (within i l).0), omega (arith, (within i l).1))),
+    )

@@ -37,5 +37,8 @@ pub both_fit : {L : Type 0} (e : EvidenceGhosts L) (g : LedgerGhosts L) (s : Sur
 both_fit e g s begun stage b =
     let n = (e.meaning s.ledger).count in
     let few : length (take n s.spans) ≤ 64 = rw length-take (omega (arith, (e.sound s.ledger).few)) in
-    bytes_fit s.number begun s.imagers (take n s.spans) (ends_of s.kept) (doubt_of s.kept)
-    s.numbers.0 b s.numbers.1 few (λ i _. take_below n s.spans 65536 (omega arith) s.lengths i) (λ i _. s.chips i)
+    omega (
+      arith,
+      bytes_fit s.number begun s.imagers (take n s.spans) (ends_of s.kept) (doubt_of s.kept)
+          s.numbers.0 b s.numbers.1 few (λ i _. take_below n s.spans 65536 (omega arith) s.lengths i) (λ i _. s.chips i),
+    )

@@ -3,7 +3,6 @@
 ghost use Rattle.std.specs.Prelude.{◌≡◌, ℕ, ◌<◌, ◌≤◌, length, ◌≢◌, slice_index};
 
 // The number that the bytes spell in digits, up to 255.
-
 fn number_of(digits: &[u8]) -> Option<u8> {
     let mut value: u8 = 0;
     for d in digits {
