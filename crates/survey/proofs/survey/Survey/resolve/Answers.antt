@@ -18,7 +18,7 @@ returns-in-Ok g c =
       counted.same ∙ ap (how_many (doubt_of c.place.new.record)) c.count.ensures,
       refl,
     ) in
-    record { told = k.told; run = k.run; few = (c.in-Ok.ensures.few, few) }
+    record { told = k.told; run = k.run; few = (c.in-Ok.ensures.few, omega arith) }
 
 pub returns-in-Err : goal.returns-in-Err
 returns-in-Err g c =
