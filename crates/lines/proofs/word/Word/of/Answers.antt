@@ -8,9 +8,6 @@ returns-in-enlist c = text_from_reads _ (codes "enlist") (search rules) (search 
 pub returns-in-share : goal.returns-in-share
 returns-in-share c = text_from_reads _ (codes "share") (search rules) (search rules)
 
-pub returns-in-part : goal.returns-in-part
-returns-in-part c = text_from_reads _ (codes "part") (search rules) (search rules)
-
 pub returns-in-resolve : goal.returns-in-resolve
 returns-in-resolve c = text_from_reads _ (codes "resolve") (search rules) (search rules)
 
