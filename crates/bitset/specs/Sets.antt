@@ -1,11 +1,16 @@
 -- Sets of numbers below 64, each kept in the bits of one number.
-use Rattle.std.specs.Prelude.{◌≡◌, ℕ, zero, suc, ◌+◌, ◌*◌, ◌/◌, ◌%◌, ◌^◌, ◌<◌, Bool, true, false, cond, ◌==◌, bit_and, bit_or, bit_xor, nat_lt}
+use Rattle.std.specs.Prelude.{◌≡◌, ℕ, zero, suc, ◌+◌, ◌*◌, ◌/◌, ◌%◌, ◌^◌, ◌<◌, Bool, true, false, cond, List, ◌==◌, bit_and, bit_or, bit_xor, nat_lt}
 use Rattle.std.specs.Int.Count.{count_trailing_zeros}
+use Rattle.std.specs.List.{filter, range_with_len}
 
 -- Whether i is a member: bit i of m is set.
 unfoldable pub has : ℕ → ℕ → Bool
 has m zero = m % 2 == 1
 has m (suc i) = has (m / 2) i
+
+-- The members, rising.
+unfoldable pub members : ℕ → List ℕ
+members m = filter (has m) (range_with_len 0 64)
 
 -- The members of a that are not in b.
 unfoldable pub minus : ℕ → ℕ → ℕ

@@ -2,6 +2,8 @@
 
 #![tactic(auto)]
 
+mod baselines;
 mod set;
 
+pub use baselines::Baselines;
 pub use set::BaselineSet;

@@ -1,9 +1,9 @@
 -- The clusters are settled one after the other, each from its root.
 use Rattle.std.proofs.Common.{◌≡◌, ℕ, ◌+◌, ◌^◌, ◌<◌, ◌≤◌, Bool, true, false, cond, not, ◌&&◌, ◌||◌, ◌↔◌, [], sym, ap, ◌∙◌, subst, ⊎_elim, arith}
-use Rattle.std.proofs.lemmas.Bool.{or_cases, or_left, or_right, or_parts, both_ways, cases_lt, cases_eq}
+use Rattle.std.proofs.lemmas.Bool.{or_cases, or_left, or_right, or_parts, both_ways, cases_lt, cases_eq, false_from_ne_true}
 use Rattle.std.proofs.lemmas.Bool.Decides.{nat_tests}
 use Rattle.bitset.specs.Sets.{has}
-use Rattle.bitset.proofs.Members.{unless, has_none}
+use Rattle.bitset.proofs.Members.{has_none}
 use Rattle.evidence.specs.Table.{Table, Sound}
 use Rattle.theory.specs.Clusters.{Reach, here}
 use Rattle.theory.specs.Placed.{Clash}
@@ -124,7 +124,7 @@ module _ (t : Table) (sound : Sound t) where
         (doubtful-is : (v : ℕ) → has y.doubtful.bits v ≡ (has x.doubtful.bits v || (doubtful && has met v))) where
       -- what was settled before is not of this cluster
       not_met : (v : ℕ) → v < t.count → root t v < r → has met v ≡ false
-      not_met v l h = unless _ (λ m. omega (arith, reached_root v ((reaches v).0 m)))
+      not_met v l h = false_from_ne_true _ (λ m. omega (arith, reached_root v ((reaches v).0 m)))
 
       which_next : (v : ℕ) → v < t.count → (has y.settled.bits v ≡ true) ↔ (root t v < r + 1)
       which_next v l = (
@@ -144,7 +144,7 @@ module _ (t : Table) (sound : Sound t) where
           new : root t v ≡ r → Settled t (root t v) (bits_at y.near) (has y.doubtful.bits v)
           new e =
               let m = (reaches v).1 (root_reached v l e) in
-              let before : has x.doubtful.bits v ≡ false = s.certain v (unless _ (λ k. omega (arith, (s.which v l).0 k))) in
+              let before : has x.doubtful.bits v ≡ false = s.certain v (false_from_ne_true _ (λ k. omega (arith, (s.which v l).0 k))) in
               let is : has y.doubtful.bits v ≡ doubtful = doubtful-is v ∙ new_doubt _ doubtful _ before m in
               subst (λ d. Settled t (root t v) (bits_at y.near) d) (sym is) (subst (λ q. Settled t q (bits_at y.near) doubtful) (sym e) here-settled)
 

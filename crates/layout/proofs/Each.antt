@@ -2,10 +2,10 @@
 use Rattle.std.proofs.Common.{◌≡◌, ℕ, ◌^◌, ◌<◌, Bool, true, false, not, ◌&&◌, ◌||◌, eqb, ◌⊎◌, sym, refl, ap, ◌∙◌, inl, inr, ⊎_elim, arith}
 use mathlib.Core.Bool.{and-true, and-false}
 use lib.Bits.{bit_or, or_lt}
-use Rattle.std.proofs.lemmas.Bool.{and_parts, and_from, cases_eq, cases_lt, both_ways, ne_eqb, eq-eqb, not_from_false}
+use Rattle.std.proofs.lemmas.Bool.{and_parts, and_from, cases_eq, ne_eqb, eq-eqb, not_from_false}
 use Rattle.std.proofs.lemmas.Bool.Decides.{nat_tests}
-use Rattle.bitset.specs.Sets.{has, single, lowest, Lowest}
-use Rattle.bitset.proofs.Members.{not_empty, has_or, has_single, same_set, single_lt, lowest_is}
+use Rattle.bitset.specs.Sets.{has, single}
+use Rattle.bitset.proofs.Members.{not_empty, has_or, has_single, same_set, single_lt}
 use Rattle.theory.proofs.Counts.{how_many, how_many_put}
 
 -- a member that is taken out is gone, and the others stay
@@ -53,17 +53,3 @@ module _ (rest rest' v : ℕ) (is : (k : ℕ) → has rest' k ≡ (has rest k &&
 -- none is left: all have passed
 pub each_all : (test : ℕ → Bool) (all rest : ℕ) → rest ≡ 0 → Each test all rest → (w : ℕ) → has all w ≡ true → test w ≡ true
 each_all test all rest z e w h = ⊎_elim (λ k. absurd (not_empty rest w k z)) (λ f. f) (e.passed w h)
-
--- the lowest member is one
-pub lowest_unique : (m i : ℕ) → m < 2 ^ 64 → Lowest m i → i ≡ lowest m
-lowest_unique m i l low = ⊎_elim (λ h. h) apart (cases_eq i (lowest m))
-  where
-    its : Lowest m (lowest m)
-    its = lowest_is m (not_empty m i low.member) l
-
-    apart : (i ≡ lowest m → ⊥) → i ≡ lowest m
-    apart ne =
-        ⊎_elim
-        (λ h. absurd (both_ways _ (its.least i h) low.member))
-        (λ h. absurd (both_ways _ (low.least (lowest m) (omega arith)) its.member))
-        (cases_lt i (lowest m))

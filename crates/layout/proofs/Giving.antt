@@ -5,13 +5,13 @@ use lib.Count.{count_trailing_zeros, trailing_of_zero}
 use Rattle.std.proofs.lemmas.List.{get_or-set_same, get_or-set_other}
 use Rattle.std.proofs.lemmas.Bool.{and_parts, eq-eqb, ne_eqb, cases_eq}
 use Rattle.bitset.specs.Sets.{has, drop, lowest, Lowest}
-use Rattle.bitset.proofs.Members.{has_none}
+use Rattle.bitset.proofs.Members.{has_none, lowest_unique}
 use Rattle.theory.specs.declared.record.Entry.{Entry}
 use Rattle.theory.specs.Record.{blank}
 use Rattle.theory.specs.Imagers.{second}
 use Rattle.layout.specs.declared.numbering.Numbers.{Numbers}
 use Rattle.layout.specs.Numbers.{given}
-use Rattle.layout.proofs.Each.{stays, lowest_unique}
+use Rattle.layout.proofs.Each.{stays}
 
 -- ---- the second baseline of a star
 

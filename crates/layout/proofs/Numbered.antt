@@ -1,10 +1,9 @@
 -- The next star of the list of all stars gets the next number.
 use Rattle.std.proofs.Common.{◌≡◌, ℕ, ◌+◌, ◌<◌, ◌≤◌, Bool, true, false, cond, ◌||◌, eqb, ltb, List, [], ◌∷◌, ◌++◌, length, get_or, MatchBool, sym, refl, ap, ◌∙◌, subst, ap₂, arith, length-append}
 use Rattle.std.proofs.lemmas.List.{append-nil, length_push, get_or_push, get_or_append_left}
-use Rattle.std.proofs.lemmas.Bool.{cond-false}
+use Rattle.std.proofs.lemmas.Bool.{cond-false, false_from_ne_true}
 use Rattle.std.proofs.lemmas.Bool.Decides.{nat_tests}
 use Rattle.bitset.specs.Sets.{has, lowest}
-use Rattle.bitset.proofs.Members.{unless}
 use Rattle.evidence.specs.Table.{Table, Sound}
 use Rattle.theory.specs.Layout.{Ends, stands}
 use Rattle.theory.specs.declared.record.Entry.{Entry}
@@ -101,7 +100,7 @@ module _ {t : Table} (sound : Sound t) {near : ℕ → ℕ} (good : Stars t (λ 
           ∙ upto_more (layout_of t near w) (length stars) (doubtful w) (two_places sound good w l).rises
 
       outside : (w : ℕ) → t.count ≤ w → has a w ≡ false
-      outside w l = unless _ (λ h.
+      outside w l = false_from_ne_true _ (λ h.
           let b = begun_at t near t.count (length stars) within in
           omega (arith, good.inside b.at b.side w b.below (ap (λ c. has c w) (sym (sym at ∙ b.is)) ∙ h)))
 

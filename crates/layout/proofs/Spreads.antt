@@ -3,10 +3,10 @@ use Rattle.std.proofs.Common.{◌≡◌, ℕ, ◌+◌, ◌-◌, ◌<◌, ◌≤�
 use Rattle.std.specs.List.{AllByRecursion as All}
 use Rattle.std.proofs.ByRecursion.{All-get_or}
 use Rattle.std.proofs.lemmas.List.{get_or-set_same, get_or-set_other, get_or-reverse, get_or-take, length-reverse, length-take-le, take_more}
-use Rattle.std.proofs.lemmas.Bool.{or_cases, or_parts, eqb-true, eq-eqb, ne_eqb, cond-true, cond-false, cases_eq, both_ways}
+use Rattle.std.proofs.lemmas.Bool.{or_cases, or_parts, eqb-true, eq-eqb, ne_eqb, cond-true, cond-false, cases_eq, both_ways, false_from_ne_true}
 use Rattle.bitset.specs.declared.set.BaselineSet.{BaselineSet}
 use Rattle.bitset.specs.Sets.{has, single}
-use Rattle.bitset.proofs.Members.{unless, has_or, has_single}
+use Rattle.bitset.proofs.Members.{has_or, has_single}
 use Rattle.evidence.specs.Table.{Table}
 use Rattle.theory.specs.Clusters.{Reach, here, step}
 use Rattle.theory.specs.Walks.{Steps, none, more}
@@ -176,5 +176,5 @@ module _ (x : Rows) (w : Walk) (walked : Walked (told x) w) (first : BaselineSet
   spread_kept v out =
       is v
       ∙ unmet_spread t r first.bits begun walked.walking.steps v
-      (unless _ (λ h. out (steps_reach t (sound_told x) r walked.walking.below walked.walking.steps v h)))
+      (false_from_ne_true _ (λ h. out (steps_reach t (sound_told x) r walked.walking.below walked.walking.steps v h)))
       ∙ ap (λ (s : BaselineSet). s.bits) (get_or-set_other was r v first empty (λ e. out (subst (Reach t r) (sym e) here)))

@@ -1,8 +1,7 @@
 -- What is listed among the first entries.
 use Rattle.std.proofs.Common.{◌≡◌, ℕ, zero, suc, ◌+◌, ◌<◌, ◌≤◌, true, false, List, length, get_or, set, sym, refl, ap, ◌∙◌, ⊎_elim, add-one, arith}
 use Rattle.std.proofs.lemmas.List.{get_or-set_same, get_or-set_other}
-use Rattle.std.proofs.lemmas.Bool.{cases_eq, or_from, or_left, or_right, or_cases, both_ways}
-use Rattle.bitset.proofs.Members.{unless}
+use Rattle.std.proofs.lemmas.Bool.{cases_eq, or_from, or_left, or_right, or_cases, both_ways, false_from_ne_true}
 use Rattle.evidence.specs.Changes.{is_pair}
 use Rattle.ledgers.specs.Listing.{hit, listed}
 
@@ -45,7 +44,7 @@ listed_where ps (suc n) i j h =
 -- a pair that is not listed is at none
 pub listed_none : (ps : Entries) (n i j k : ℕ) → listed ps n i j ≡ false → k < n → hit ps i j k ≡ false
 listed_none ps n i j k h l =
-    unless (hit ps i j k) (λ e. both_ways (listed ps n i j) h (listed_at ps n i j k l e))
+    false_from_ne_true (hit ps i j k) (λ e. both_ways (listed ps n i j) h (listed_at ps n i j k l e))
 
 -- a pair that is at no place is not listed
 pub none_listed : (ps : Entries) (n i j : ℕ) → ((k : ℕ) → k < n → hit ps i j k ≡ false) → listed ps n i j ≡ false

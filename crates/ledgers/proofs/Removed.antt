@@ -2,8 +2,7 @@
 use Rattle.std.proofs.Common.{◌≡◌, ℕ, ◌-◌, ◌<◌, ◌≤◌, true, false, cond, ◌⊎◌, length, get_or, set, sym, refl, ap, ◌∙◌, inl, inr, ⊎_elim, arith}
 use Rattle.std.proofs.lemmas.Bool.Decides.{nat_tests}
 use Rattle.std.proofs.lemmas.List.{get_or-set_same, get_or-set_other}
-use Rattle.std.proofs.lemmas.Bool.{cases_eq, cases_lt, cases_order, cases_Bool, both_ways}
-use Rattle.bitset.proofs.Members.{unless}
+use Rattle.std.proofs.lemmas.Bool.{cases_eq, cases_lt, cases_order, cases_Bool, both_ways, false_from_ne_true}
 use Rattle.evidence.specs.Changes.{is_pair}
 use Rattle.ledgers.specs.Listing.{hit, listed}
 use Rattle.ledgers.proofs.Listed.{Entries, one, two, listed_at, listed_where, listed_none, none_listed, hit_other, hit_same}
@@ -73,7 +72,7 @@ module _ (ps : Entries) (n i j k : ℕ) (long : length ps ≡ 512) (room : n ≤
       let w = source m h in
       let e : hit shorter a b m ≡ hit ps a b w.0 = ap (λ (p : ℕ × ℕ). is_pair a b p.0 p.1) w.4 in
       let here : hit ps a b k ≡ true = grind (arith, nat_tests, found, same) in
-      e ∙ unless (hit ps a b w.0) (λ t. w.2 (one_place a b w.0 k w.1 within t here)))
+      e ∙ false_from_ne_true (hit ps a b w.0) (λ t. w.2 (one_place a b w.0 k w.1 within t here)))
 
   -- what is listed now was listed
   stays_in : (a b : ℕ) → listed shorter last a b ≡ true → listed ps n a b ≡ true
@@ -98,7 +97,7 @@ module _ (ps : Entries) (n i j k : ℕ) (long : length ps ≡ 512) (room : n ≤
   stays a b other =
       ⊎_elim
       (λ t. t ∙ sym (stays_in a b t))
-      (λ f. f ∙ sym (unless (listed ps n a b) (λ t. both_ways (listed shorter last a b) f (stays_out a b other t))))
+      (λ f. f ∙ sym (false_from_ne_true (listed ps n a b) (λ t. both_ways (listed shorter last a b) f (stays_out a b other t))))
       (cases_Bool (listed shorter last a b))
 
   -- the pair is listed no more, and the others as they were
@@ -118,5 +117,5 @@ module _ (ps : Entries) (n i j k : ℕ) (long : length ps ≡ 512) (room : n ≤
       let v = source l (omega arith) in
       let e : hit shorter (one ps w.0) (two ps w.0) l ≡ hit ps (one ps w.0) (two ps w.0) v.0 = ap (λ (p : ℕ × ℕ). is_pair (one ps w.0) (two ps w.0) p.0 p.1) v.4 in
       let here : hit ps (one ps w.0) (two ps w.0) w.0 ≡ true = itself (one ps w.0) (two ps w.0) in
-      e ∙ unless (hit ps (one ps w.0) (two ps w.0) v.0) (λ t.
+      e ∙ false_from_ne_true (hit ps (one ps w.0) (two ps w.0) v.0) (λ t.
       two_places v.0 w.0 l m g h v.3 w.3 (one_place (one ps w.0) (two ps w.0) v.0 w.0 v.1 w.1 t here)))

@@ -2,10 +2,9 @@
 use Rattle.std.proofs.Common.{◌≡◌, ℕ, ◌+◌, ◌<◌, ◌≤◌, Bool, true, false, cond, not, ◌&&◌, eqb, ◌≢◌, List, [], ◌∷◌, ◌++◌, sym, refl, ap, ◌∙◌, ap₂, ⊎_elim, add-zero, add_comm, zero-add, arith}
 use mathlib.Core.Bool.{and_comm}
 use Rattle.std.proofs.lemmas.List.Sums.{sum_by-append}
-use Rattle.std.proofs.lemmas.Bool.{and_parts, and_from, both_ways, cases_Bool, cases_eq, cond_both, eqb-true, leb-true, leb-false}
+use Rattle.std.proofs.lemmas.Bool.{and_parts, and_from, both_ways, cases_Bool, cases_eq, cond_both, eqb-true, leb-true, leb-false, false_from_ne_true}
 use Rattle.std.proofs.lemmas.Bool.Decides.{nat_tests}
 use Rattle.bitset.specs.Sets.{has, lowest}
-use Rattle.bitset.proofs.Members.{unless}
 use Rattle.evidence.specs.Table.{Table, Sound}
 use Rattle.theory.specs.Stars.{Stars, star, far}
 use Rattle.theory.specs.Imagers.{second, begun_by, begins}
@@ -59,7 +58,7 @@ same_picked test pick pick' star star' to back lone lone' =
     none : ((q : Bool) → pick q ≡ false) → picked test pick star ≡ picked test pick' star'
     none h =
         picked_none test pick star h
-        ∙ sym (picked_none test pick' star' (λ s. unless _ (λ p. let x = back s p in both_ways _ (h x.0) x.1)))
+        ∙ sym (picked_none test pick' star' (λ s. false_from_ne_true _ (λ p. let x = back s p in both_ways _ (h x.0) x.1)))
 
 -- how many stars hold i of a, if it begins at w
 holding_begun : (test : ℕ → Bool) (i w a : ℕ) → holding test i (begun_by w a) ≡ one ((eqb (lowest a) w && has a i) && test a)
@@ -138,7 +137,7 @@ module _ {t : Table} (sound : Sound t) {near : ℕ → ℕ} (good : Stars t (λ 
               (y.0, and_from _ _ (ap (λ a. eqb (lowest a) w) (sym y.1) ∙ h) (ap (λ a. has a i) (sym y.1) ∙ star_self sound good i s li))
 
           lone : (q : Bool) → theirs q ≡ true → theirs (not q) ≡ false
-          lone q h = unless _ (λ k. d (sym (star_meet sound good w q i lw (held q h) (held (not q) k))))
+          lone q h = false_from_ne_true _ (λ k. d (sym (star_meet sound good w q i lw (held q h) (held (not q) k))))
 
           lone' : (s : Bool) → mine s ≡ true → mine (not s) ≡ false
-          lone' s h = unless _ (λ k. d (star_meet sound good i s w li (at_w s h) (at_w (not s) k)))
+          lone' s h = false_from_ne_true _ (λ k. d (star_meet sound good i s w li (at_w s h) (at_w (not s) k)))

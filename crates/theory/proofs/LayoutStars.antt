@@ -1,8 +1,8 @@
 -- A layout of a cluster gives a system of stars, and three baselines have a common imager just where they have a common star.
 use Rattle.std.proofs.Common.{◌≡◌, ℕ, ◌^◌, ◌<◌, ◌≤◌, Bool, true, false, not, ◌&&◌, ◌||◌, eqb, ltb, ◌↔◌, sym, ap, ◌∙◌, subst, ⊎_elim}
-use Rattle.std.proofs.lemmas.Bool.{and_parts, and_left, eq-eqb, ne_eqb, cases_Bool, cases_eq, cases_lt, lt-ltb, le-ltb, both_ways}
+use Rattle.std.proofs.lemmas.Bool.{and_parts, and_left, eq-eqb, ne_eqb, cases_Bool, cases_eq, cases_lt, lt-ltb, le-ltb, both_ways, false_from_ne_true}
 use Rattle.bitset.specs.Sets.{has, set_of}
-use Rattle.bitset.proofs.Members.{has_set_of, set_of_lt, same_set, has_past, unless}
+use Rattle.bitset.proofs.Members.{has_set_of, set_of_lt, same_set, has_past}
 use Rattle.evidence.specs.Table.{Table, Sound}
 use Rattle.theory.specs.Layout.{Ends, stands, LayoutOn}
 use Rattle.theory.specs.Groups.{Trio, has_trio}
@@ -33,7 +33,7 @@ module _ (t : Table) (sound : Sound t) (r : ℕ) (below : r < t.count) {e : ℕ 
       low l = simp (lt-ltb i 64 l)
 
       past : 64 ≤ i → (ltb i 64 && (has (cluster t r) i && stands a (e i))) ≡ (has (cluster t r) i && stands a (e i))
-      past l = simp (le-ltb i 64 l, has_past (cluster t r) i (cluster_lt t sound r below) l)
+      past l = simp (le-ltb i 64 l, has_past 64 (cluster t r) i (cluster_lt t sound r below) l)
 
   -- it is a set of baselines
   star_at_lt : (a : ℕ) → star_at t r e a < 2 ^ 64
@@ -63,7 +63,7 @@ module _ (t : Table) (sound : Sound t) (r : ℕ) (below : r < t.count) {e : ℕ 
   outside : (v i : ℕ) → Reach t r v → has (cluster t r) i ≡ false → (eqb v i ≡ false) × (t.shares v i ≡ false)
   outside v i c out =
       let away : Reach t r i → ⊥ = λ d. both_ways _ out ((walk_cluster t sound r below i).1 d) in
-      (ne_eqb v i (λ p. away (subst (Reach t r) p c)), unless (t.shares v i) (λ h. away (step c h)))
+      (ne_eqb v i (λ p. away (subst (Reach t r) p c)), false_from_ne_true (t.shares v i) (λ h. away (step c h)))
 
   -- the two stars of a baseline are each other's other
   star_at_other : (v : ℕ) (s : Bool) → Reach t r v → far t v (layout_star t r e v s) ≡ layout_star t r e v (not s)

@@ -1,9 +1,9 @@
 -- The two lowest baselines of a star.
 use Rattle.std.proofs.Common.{◌≡◌, ℕ, ◌^◌, ◌<◌, ◌≤◌, Bool, true, false, not, ◌&&◌, eqb, ◌≢◌, sym, refl, ap, ◌∙◌, ⊎_elim, arith}
 use lib.Count.{trailing_of_zero, trailing_le}
-use Rattle.std.proofs.lemmas.Bool.{and_parts, both_ways, cases_eq, cases_lt, cond_both, eqb-true, eqb-false, not-true}
-use Rattle.bitset.specs.Sets.{has, single, drop, lowest, Lowest}
-use Rattle.bitset.proofs.Members.{has_drop, not_empty, lowest_is, lowest_least, minus_lt}
+use Rattle.std.proofs.lemmas.Bool.{and_parts, both_ways, cases_eq, cases_lt, eqb-true, eqb-false, not-true}
+use Rattle.bitset.specs.Sets.{has, drop, lowest, Lowest}
+use Rattle.bitset.proofs.Members.{has_drop, not_empty, lowest_is, below_lowest, drop_lt}
 use Rattle.theory.specs.Imagers.{second}
 
 -- the second lowest baseline is one or is none
@@ -31,7 +31,7 @@ unfolding second
 lowest_two a v l h = record {
   low = low;
   rises = ⊎_elim none_rises (λ d. some_rises (some d)) (cases_eq rest 0);
-  below_second = λ k below. is_low _ _ (sym (rest_has k) ∙ lowest_least 64 rest k below) (λ p. ap (has a) (eqb-true k _ p) ∙ low.member);
+  below_second = λ k below. is_low _ _ (sym (rest_has k) ∙ below_lowest rest k rest_lt below) (λ p. ap (has a) (eqb-true k _ p) ∙ low.member);
   second_in = λ below. (some (λ z. omega (arith, none z))).0;
 }
   where
@@ -46,7 +46,7 @@ lowest_two a v l h = record {
     rest_has k = has_drop a (lowest a) k l
 
     rest_lt : rest < 2 ^ 64
-    rest_lt = cond_both _ _ _ (λ x. x < 2 ^ 64) (λ e. minus_lt 64 a (single (lowest a)) l) (λ e. l)
+    rest_lt = drop_lt a (lowest a) l
 
     none : rest ≡ 0 → lowest rest ≡ 64
     none z = ap lowest z ∙ trailing_of_zero 64

@@ -1,9 +1,9 @@
 -- Of two systems of stars with different starts, the one with the earlier start has the first three that differs.
 use Rattle.std.proofs.Common.{◌≡◌, ℕ, ◌<◌, ◌≤◌, Bool, true, false, not, ◌≢◌, ◌⊎◌, Some, None, Option, sym, refl, ap, ◌∙◌, ap₂, inl, inr, ⊎_elim, arith}
 use mathlib.Core.Bool.{or-false}
-use Rattle.std.proofs.lemmas.Bool.{ne_eqb, cases_lt, cases_order, both_ways}
+use Rattle.std.proofs.lemmas.Bool.{ne_eqb, cases_lt, cases_order, both_ways, false_from_ne_true}
 use Rattle.bitset.specs.Sets.{has, lowest}
-use Rattle.bitset.proofs.Members.{has_single, single_has, has_none, unless}
+use Rattle.bitset.proofs.Members.{has_single, single_has, has_none}
 use Rattle.evidence.specs.Table.{Table, Sound}
 use Rattle.theory.specs.Groups.{Three, Sooner}
 use Rattle.theory.specs.Clusters.{Reach, here, step}
@@ -44,14 +44,14 @@ module _ {t : Table} (sound : Sound t) {r : ℕ} {st : ℕ → Bool → ℕ} (go
   -- what does not share is in no three
   trio_none : (i j k : ℕ) → Reach t r i → i ≢ j → t.shares i j ≡ false → star_trio st i j k ≡ false
   trio_none i j k c ne h =
-      unless (star_trio st i j k) (λ y. both_ways _ h (trio_shares_first sound good i j k c y ne))
+      false_from_ne_true (star_trio st i j k) (λ y. both_ways _ h (trio_shares_first sound good i j k c y ne))
 
   -- the threes of r and one in its one star are told by that star
   trio_in : (s k : ℕ) (q : Bool) → t.shares r s ≡ true → has (st r q) s ≡ true → star_trio st r s k ≡ has (st r q) k
   trio_in s k q share h = trio_side st r s k q ∙ simp (h, gone) (or-false (has (st r q) k))
     where
       gone : has (st r (not q)) s ≡ false
-      gone = unless _ (λ l. shares_apart sound r s share (star_meet sound good r q s here h l))
+      gone = false_from_ne_true _ (λ l. shares_apart sound r s share (star_meet sound good r q s here h l))
 
   -- the threes of r and the lowest that shares with r are told by the first star
   first_trio : (q : Bool) (x : Option ℕ) → row t r ≢ 0 → st r q ≡ first t r x

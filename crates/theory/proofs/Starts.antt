@@ -2,10 +2,10 @@
 use Rattle.std.proofs.Common.{◌≡◌, ℕ, ◌^◌, ◌<◌, Bool, true, false, not, ◌&&◌, ◌||◌, eqb, ◌≢◌, ◌⊎◌, Some, None, Option, sym, ap, ◌∙◌, inl, inr, ⊎_elim, arith}
 use mathlib.Core.Bool.{or-false}
 use lib.Bits.{bit_and, and_lt}
-use Rattle.std.proofs.lemmas.Bool.{and_parts, and_from, not-true, eqb-true, eqb-false, eq-eqb, ne_eqb, cases_Bool, cases_eq, both_ways}
+use Rattle.std.proofs.lemmas.Bool.{and_parts, and_from, not-true, eqb-true, eqb-false, eq-eqb, ne_eqb, cases_Bool, cases_eq, both_ways, false_from_ne_true}
 use Rattle.std.proofs.lemmas.Bool.Decides.{nat_tests}
 use Rattle.bitset.specs.Sets.{has, minus, single, lowest}
-use Rattle.bitset.proofs.Members.{has_and, has_minus, has_single, single_has, has_none, same_set, empty_set, minus_lt, single_lt, lowest_is, unless}
+use Rattle.bitset.proofs.Members.{has_and, has_minus, has_single, single_has, has_none, same_set, empty_set, minus_lt, single_lt, lowest_is}
 use Rattle.evidence.specs.Table.{Table, Sound}
 use Rattle.theory.specs.Clusters.{Reach, here}
 use Rattle.theory.specs.Stars.{row, Stars}
@@ -102,7 +102,7 @@ module _ (t : Table) (sound : Sound t) (r : ℕ) (below : r < 64) {st : ℕ → 
   pub cross_between : (q : Bool) (x : ℕ) → has (between t r) x ≡ true → st r q ≡ first t r (Some x) → bit_and (row t x) (between t r) ≡ 0
   cross_between q x b e =
       empty_set 64 _ (and_lt 64 _ _ (row_lt t x) (between_lt t sound r))
-      (λ y l. unless _ (alone y))
+      (λ y l. false_from_ne_true _ (alone y))
     where
       crosses_x : Crosses t r (lowest (row t r)) (st r q) x
       crosses_x =

@@ -1,8 +1,7 @@
 -- A table has a layout exactly when every cluster of it has one.
 use Rattle.std.proofs.Common.{◌≡◌, ℕ, ◌+◌, ◌*◌, ◌<◌, ◌≤◌, false, cond, ◌≢◌, ◌⊎◌, sym, ap, ◌∙◌, inl, inr, ⊎_elim, arith}
-use Rattle.std.proofs.lemmas.Bool.{cases_lt, cases_eq}
+use Rattle.std.proofs.lemmas.Bool.{cases_lt, cases_eq, false_from_ne_true}
 use Rattle.std.proofs.lemmas.Bool.Decides.{nat_tests}
-use Rattle.bitset.proofs.Members.{unless}
 use Rattle.evidence.specs.Table.{Table, Sound}
 use Rattle.theory.specs.Layout.{Ends, in_common, LayoutOn, Layout}
 use Rattle.theory.specs.Clusters.{Reach, here, step, HasLayout}
@@ -70,7 +69,7 @@ module _ (t : Table) (each : (i : ℕ) → i < t.count → HasLayout t i) where
         ∙ sym (ap (λ b. cond b 1 0) unshared)
       where
         unshared : t.shares i j ≡ false
-        unshared = unless (t.shares i j) (λ s. ne (root_same t sound i h j (step here s)))
+        unshared = false_from_ne_true (t.shares i j) (λ s. ne (root_same t sound i h j (step here s)))
 
     -- so the ends put together are a layout of the table
     together_fits : Layout t together

@@ -1,7 +1,6 @@
 use Rattle.std.proofs.Common.{sym, ◌∙◌, rules}
-use Rattle.std.proofs.lemmas.Bool.{both_ways}
+use Rattle.std.proofs.lemmas.Bool.{both_ways, false_from_ne_true}
 use Rattle.bitset.specs.Sets.{Lowest}
-use Rattle.bitset.proofs.Members.{unless}
 use Rattle.layout.specs.Quick.{star_of}
 use Rattle.layout.specs.Tables.{bits_at}
 use Rattle.layout.specs.Told.{told}
@@ -27,7 +26,7 @@ loop-w-smaller c =
 pub returns-then-not-is_star_of : goal.returns-then-not-is_star_of
 returns-then-not-is_star_of c =
     let low : Lowest c.loop-w.rest.bits c.in-Some.w = c.in-Some.ensures in
-    sym (unless _ (λ h. both_ways _ (sym c.is_star_of.ensures ∙ c.if-not-is_star_of.true)
+    sym (false_from_ne_true _ (λ h. both_ways _ (sym c.is_star_of.ensures ∙ c.if-not-is_star_of.true)
     ((agreed_tells (told c.args.rows.now) (bits_at c.args.near.now) c.args.a.bits).0 h c.in-Some.w low.below
     (c.loop-w.invariant.within c.in-Some.w low.member))))
 

@@ -1,11 +1,10 @@
 use Rattle.std.proofs.Common.{◌≡◌, sym, ap, ◌∙◌, rules}
 use Rattle.std.proofs.lemmas.Bool.{cond-true, cond-false, eq-eqb, ne_eqb}
 use Rattle.bitset.specs.Sets.{lowest}
-use Rattle.bitset.proofs.Members.{not_empty}
+use Rattle.bitset.proofs.Members.{not_empty, lowest_unique}
 use Rattle.layout.specs.Quick.{star_of, quick}
 use Rattle.layout.specs.Tables.{bits_at}
 use Rattle.layout.specs.Told.{told}
-use Rattle.layout.proofs.Each.{lowest_unique}
 use Rattle.layout.proofs.verify.star_holds.Goals as goal
 
 pub returns-in-None : goal.returns-in-None

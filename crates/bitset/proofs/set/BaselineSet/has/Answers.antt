@@ -9,4 +9,4 @@ returns-then-i-lt64 c = sym (has_shift c.args.self.bits c.args.i)
 pub returns-else-i-lt64 : goal.returns-else-i-lt64
 returns-else-i-lt64 c =
     le-ltb c.args.i 64 c.if-i-lt64.false
-    ∙ sym (has_past c.args.self.bits c.args.i (search rules) c.if-i-lt64.false)
+    ∙ sym (has_past 64 c.args.self.bits c.args.i (search rules) c.if-i-lt64.false)

@@ -2,8 +2,8 @@ use Rattle.std.proofs.Common.{◌≡◌, MatchBool, sym, refl, ap, ◌∙◌, su
 use lib.Count.{trailing_of_zero}
 use Rattle.std.proofs.lemmas.Bool.{eq-eqb, ne_eqb}
 use Rattle.bitset.specs.Sets.{lowest}
+use Rattle.bitset.proofs.Members.{lowest_unique}
 use Rattle.layout.specs.Numbers.{Given}
-use Rattle.layout.proofs.Each.{lowest_unique}
 use Rattle.layout.proofs.numbering.Numbers.begin.Goals as goal
 
 pub returns-then-first-v : goal.returns-then-first-v

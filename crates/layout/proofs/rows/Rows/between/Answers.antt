@@ -1,8 +1,8 @@
 use Rattle.std.proofs.Common.{sym, ap, ◌∙◌, ap₂, rules}
 use lib.Bits.{bit_and}
 use Rattle.bitset.specs.Sets.{lowest}
+use Rattle.bitset.proofs.Members.{lowest_unique}
 use Rattle.layout.specs.Told.{told}
-use Rattle.layout.proofs.Each.{lowest_unique}
 use Rattle.layout.proofs.FirstStars.{between_none, between_some}
 use Rattle.layout.proofs.rows.Rows.between.Goals as goal
 

@@ -1,10 +1,9 @@
 use Rattle.std.proofs.Common.{◌≡◌, sym, ap, ◌∙◌, ap₂, rules}
 use lib.Bits.{bit_or}
 use Rattle.bitset.specs.Sets.{lowest, minus, put, Lowest}
-use Rattle.bitset.proofs.Members.{not_empty}
+use Rattle.bitset.proofs.Members.{not_empty, lowest_unique}
 use Rattle.theory.specs.Search.{crossed}
 use Rattle.layout.specs.Told.{told}
-use Rattle.layout.proofs.Each.{lowest_unique}
 use Rattle.layout.proofs.FirstStars.{first_alone, first_with}
 use Rattle.layout.proofs.rows.Rows.first_star.Goals as goal
 
