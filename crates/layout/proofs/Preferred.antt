@@ -4,10 +4,9 @@ use Rattle.std.proofs.lemmas.Bool.{and_parts, and_left, cond_both, cond-false, e
 use Rattle.bitset.specs.Sets.{has, single, drop, Highest}
 use Rattle.bitset.proofs.Members.{has_none, has_drop, minus_lt}
 use Rattle.evidence.specs.Table.{Table}
-use Rattle.theory.specs.Search.{between, passes, passing_below, passing, is_nil}
+use Rattle.theory.specs.Search.{Start, between, passes, passing_below, passing, is_nil}
 use Rattle.theory.proofs.Counts.{how_many}
 use Rattle.theory.proofs.Places.{one}
-use Rattle.theory.proofs.Firsts.{Start}
 use Rattle.layout.specs.declared.order.Starts.{Starts}
 use Rattle.layout.specs.Order.{Next, Between, passing_among, left, Found}
 use Rattle.layout.proofs.Each.{gone, stays, each_falls}

@@ -1,8 +1,7 @@
 //! The search on one cluster: its starts are tried in the order of preference.
 
 ghost use Rattle.std.specs.Prelude.{◌≡◌, true, [], MatchOption};
-ghost use Rattle.theory.specs.Search.{passes, passing, Settled};
-ghost use Rattle.theory.proofs.Firsts.{Start};
+ghost use Rattle.theory.specs.Search.{Start, passes, passing, Settled};
 ghost use Rattle.layout.specs.Near.{Begins, KeptOutside};
 ghost use Rattle.layout.specs.Order.{Between, Found};
 ghost use Rattle.layout.specs.Tables.{bits_at};

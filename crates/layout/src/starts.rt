@@ -4,8 +4,7 @@
 ghost use Rattle.std.specs.Prelude.{◌≡◌, ℕ, ◌<◌, true, ◌≢◌};
 ghost use Rattle.bitset.specs.Sets.{has, minus};
 ghost use Rattle.theory.specs.Stars.{row};
-ghost use Rattle.theory.specs.Search.{between, crossed, first, passes};
-ghost use Rattle.theory.proofs.Firsts.{Start};
+ghost use Rattle.theory.specs.Search.{Start, between, crossed, first, passes};
 ghost use Rattle.layout.specs.Told.{told};
 
 use super::rows::Rows;

@@ -1,5 +1,5 @@
 -- The first star of a start: which baselines are in it.
-use Rattle.std.proofs.Common.{◌≡◌, ℕ, ◌^◌, ◌<◌, true, false, not, ◌&&◌, ◌||◌, eqb, ◌≢◌, Some, None, Option, sym, refl, ap, ◌∙◌}
+use Rattle.std.proofs.Common.{◌≡◌, ℕ, ◌^◌, ◌<◌, true, false, not, ◌&&◌, ◌||◌, eqb, ◌≢◌, Option, sym, refl, ap, ◌∙◌}
 use lib.Bits.{or_lt, and_lt}
 use Rattle.std.proofs.lemmas.Bool.{and_parts, or_left, or_right, eq-eqb, ne_eqb, eqb-false, cond-true, cond-false, cond_both}
 use Rattle.bitset.specs.Sets.{has, single, lowest}
@@ -9,11 +9,6 @@ use Rattle.theory.specs.Stars.{row}
 use Rattle.theory.specs.Search.{between, crossed, first}
 use Rattle.theory.proofs.Rows.{row_has, row_lt}
 use Rattle.theory.proofs.StarFacts.{shares_apart}
-
--- a start crosses none, or one that shares with r and with the lowest baseline that shares with r
-abbrev pub Start : Table → ℕ → Option ℕ → Type 0
-Start t r None = Unit {0}
-Start t r (Some x) = has (between t r) x ≡ true
 
 module _ (t : Table) (sound : Sound t) (r : ℕ) where
   -- the baselines between share with r and with the lowest baseline that shares with r

@@ -5,8 +5,8 @@ use Rattle.std.proofs.lemmas.Bool.{and_parts, and_from, cond_both, cases_eq, bot
 use Rattle.bitset.specs.Sets.{has}
 use Rattle.bitset.proofs.Members.{has_lt}
 use Rattle.evidence.specs.Table.{Table, Sound}
-use Rattle.theory.specs.Search.{between, passes, passing_below, passing}
-use Rattle.theory.proofs.Firsts.{Start, between_lt}
+use Rattle.theory.specs.Search.{Start, between, passes, passing_below, passing}
+use Rattle.theory.proofs.Firsts.{between_lt}
 use Rattle.theory.proofs.Prefer.{Earlier}
 
 -- the earlier starts stand first

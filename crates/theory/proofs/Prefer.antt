@@ -8,9 +8,9 @@ use Rattle.evidence.specs.Table.{Table, Sound}
 use Rattle.theory.specs.Groups.{Three, Sooner}
 use Rattle.theory.specs.Clusters.{Reach, here, step}
 use Rattle.theory.specs.Stars.{row, Stars, star_trio}
-use Rattle.theory.specs.Search.{crossed, first}
+use Rattle.theory.specs.Search.{Start, crossed, first}
 use Rattle.theory.proofs.StarFacts.{shares_apart, star_meet, trio_shares_first, trio_side}
-use Rattle.theory.proofs.Firsts.{Start, between_shares, between_shared, first_has, first_second, first_between, lowest_shares, lower_shares}
+use Rattle.theory.proofs.Firsts.{between_shares, between_shared, first_has, first_second, first_between, lowest_shares, lower_shares}
 
 -- the start x comes before the start y: the one that crosses none first, then the highest cross
 abbrev pub Earlier : Option ℕ → Option ℕ → Type 0

@@ -9,11 +9,11 @@ use Rattle.bitset.proofs.Members.{has_and, has_minus, has_single, single_has, ha
 use Rattle.evidence.specs.Table.{Table, Sound}
 use Rattle.theory.specs.Clusters.{Reach, here}
 use Rattle.theory.specs.Stars.{row, Stars}
-use Rattle.theory.specs.Search.{between, crossed, first}
+use Rattle.theory.specs.Search.{Start, between, crossed, first}
 use Rattle.theory.proofs.Rows.{row_has, row_lt}
 use Rattle.theory.proofs.StarFacts.{shares_star, star_self, star_has, star_shares, star_clique}
 use Rattle.theory.proofs.Crosses.{Crosses, cross_one, cross_alone}
-use Rattle.theory.proofs.Firsts.{Start, between_has, between_lt, between_shares, between_shared, first_lt, first_lone, first_has, first_second, first_between, lowest_shares}
+use Rattle.theory.proofs.Firsts.{between_has, between_lt, between_shares, between_shared, first_lt, first_lone, first_has, first_second, first_between, lowest_shares}
 
 -- a set of which all members are equal is empty or has one member
 at_most_one : (m : ℕ) → m < 2 ^ 64 → ((i j : ℕ) → has m i ≡ true → has m j ≡ true → i ≡ j)

@@ -17,6 +17,11 @@ all p (suc n) = p n && all p n
 unfoldable pub between : Table → ℕ → ℕ
 between t r = bit_and (row t r) (row t (lowest (row t r)))
 
+-- A start of r crosses none, or one of these.
+abbrev pub Start : Table → ℕ → Option ℕ → Type 0
+Start t r None = Unit {0}
+Start t r (Some x) = has (between t r) x ≡ true
+
 -- The baselines of a start's cross: none, or the one.
 abbrev pub crossed : Option ℕ → ℕ
 crossed None = 0

@@ -3,8 +3,8 @@ use lib.Bits.{bit_and}
 use Rattle.std.proofs.lemmas.Bool.{both_ways, eq-eqb}
 use Rattle.bitset.specs.Sets.{has}
 use Rattle.bitset.proofs.Members.{has_lt}
-use Rattle.theory.specs.Search.{between, passes}
-use Rattle.theory.proofs.Firsts.{Start, between_lt}
+use Rattle.theory.specs.Search.{Start, between, passes}
+use Rattle.theory.proofs.Firsts.{between_lt}
 use Rattle.layout.specs.Told.{told}
 use Rattle.layout.proofs.Tells.{sound_told}
 use Rattle.layout.proofs.FirstStars.{pass_clique, pass_cross}
