@@ -4,7 +4,7 @@ ghost use Rattle.std.specs.Prelude.{◌≡◌, replicate};
 ghost use Rattle.theory.specs.Record.{blank};
 
 /// What is told of one baseline: its two imagers, the lower number first, and whether it is doubtful.
-#[derive(Clone, Copy, PartialEq, Eq)]
+#[derive(Clone, Copy, PartialEq, Eq, Default)]
 pub struct Entry {
     pub lower: u8,
     pub higher: u8,
@@ -22,13 +22,8 @@ impl Record {
     pub fn new() -> Self
         ensures { result.entries ≡ replicate 64 blank }
     {
-        let blank = Entry {
-            lower: 0,
-            higher: 0,
-            doubtful: false,
-        };
         Record {
-            entries: [blank; 64],
+            entries: [Entry::default(); 64],
         }
     }
 }
