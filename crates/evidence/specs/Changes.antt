@@ -1,9 +1,9 @@
 -- What the calls of a ledger answer and change, told of its table.
-use Rattle.std.specs.Prelude.{◌≡◌, ℕ, ◌+◌, Bool, cond, not, ◌&&◌, ◌||◌, List, [], ◌∷◌, Some, None, Ok, Err, Result, ◌==◌, nat_lt}
+use Rattle.std.specs.Prelude.{◌≡◌, ℕ, ◌+◌, Bool, cond, not, ◌&&◌, ◌||◌, List, [], ◌∷◌, ◌++◌, Some, None, Ok, Err, Result, ◌==◌, nat_lt}
 use Rattle.std.specs.Bool.{beq}
 use Rattle.evidence.specs.declared.refusal.Refusal.{Refusal}
-use Rattle.evidence.specs.declared.refusal.Refusal.TheVariants.{Full, PastCount, SameBaseline, ManyPairs}
-use Rattle.evidence.specs.Refusals.{Question, first_no}
+use Rattle.evidence.specs.declared.refusal.Refusal.TheVariants.{Full, ManyPairs}
+use Rattle.evidence.specs.Refusals.{Question, first_no, pair_questions}
 use Rattle.evidence.specs.Table.{Table}
 use Rattle.evidence.specs.Pairs.{pairs}
 
@@ -32,13 +32,11 @@ pub record Put (t u : Table) (i j : ℕ) (on changed : Bool) : Type 0 where
 abbrev pub grow_questions : Table → List Question
 grow_questions t = (nat_lt t.count 64, Full) ∷ []
 
--- What `set` asks: are both below the count, do the two differ, and is there room if it is a new sharing pair?
+-- What `set` asks: are the two a pair, and is there room if it is a new sharing pair?
 abbrev pub set_questions : Table → ℕ → ℕ → ℕ → Bool → List Question
 set_questions t most i j on =
-    (nat_lt i t.count && nat_lt j t.count, PastCount)
-    ∷ ((not (i == j), SameBaseline)
-    ∷ ((not on || (t.shares i j || nat_lt (pairs t) most), ManyPairs)
-    ∷ []))
+    pair_questions t.count i j
+    ++ ((not on || (t.shares i j || nat_lt (pairs t) most), ManyPairs) ∷ [])
 
 -- What `grow` answers and leaves.
 abbrev pub Grown : Table → Table → Result ℕ Refusal → Type 0

@@ -1,10 +1,8 @@
 -- The table of a drawing: bytes, two imager numbers to a baseline.
-use Rattle.std.specs.Prelude.{◌≡◌, ℕ, ◌+◌, ◌*◌, ◌/◌, ◌<◌, min, Bool, true, false, not, ◌&&◌, ◌||◌, ◌≢◌, List, length, ◌==◌, nat_lt, slice_index, refl}
-use Rattle.std.proofs.Common.{sym, arith}
+use Rattle.std.specs.Prelude.{◌≡◌, ℕ, ◌+◌, ◌*◌, ◌/◌, ◌<◌, min, Bool, true, false, not, ◌&&◌, ◌||◌, ◌≢◌, List, length, ◌==◌, slice_index, refl}
+use Rattle.std.proofs.Common.{arith}
 use Rattle.std.proofs.Math.Bool.{and_comm}
-use Rattle.std.proofs.lemmas.Bool.Decides.{same_from_decides, Decides-eqb, Decides-like}
-use Rattle.std.proofs.lemmas.Bool.{le-ltb, eq-eqb, and_right}
-use Rattle.evidence.specs.Table.{Table, Sound}
+use Rattle.evidence.specs.Table.{Table, Sound, of_pairs, eqb_comm, pairs_sound}
 use Rattle.evidence.specs.LineGraph.{On}
 
 -- The two imager numbers of a baseline, as they are drawn.
@@ -39,11 +37,7 @@ ExactlyOne d e = (v : ℕ) × On v d × On v e × ((w : ℕ) → On w d → On w
 
 -- Two different baselines share when exactly one number stands in both entries.
 abbrev pub drawn : List ℕ → Table
-drawn bytes = record {
-  count = entries bytes;
-  shares = λ i j.
-      (nat_lt i (entries bytes) && nat_lt j (entries bytes)) && (not (i == j) && one_common (entry bytes i) (entry bytes j));
-}
+drawn bytes = of_pairs (entries bytes) (λ i j. one_common (entry bytes i) (entry bytes j))
 
 -- A drawing is proper when each entry has two different numbers and no two entries hold the same two.
 pub record Proper (bytes : List ℕ) : Type 0 where
@@ -56,9 +50,6 @@ pub record New (bytes : List ℕ) (i : ℕ) : Type 0 where
   pub distinct : (j : ℕ) → j < i → same_two (entry bytes i) (entry bytes j) ≡ false
 
 -- The table of a drawing is sound.
-pub eqb_comm : (a b : ℕ) → (a == b) ≡ (b == a)
-eqb_comm a b = same_from_decides (a == b) (b == a) (Decides-eqb a b) (Decides-like (b == a) sym sym (Decides-eqb b a))
-
 or_swap : (p q r s : Bool) → ((p || q) || (r || s)) ≡ ((p || r) || (q || s))
 or_swap true q r s = refl
 or_swap false true true s = refl
@@ -78,9 +69,4 @@ common_comm d e =
     cc
 
 pub drawn_sound : (bytes : List ℕ) → Sound (drawn bytes)
-drawn_sound bytes = record {
-  few = omega arith;
-  alike = λ i j. cc (and_comm (nat_lt i (entries bytes)) (nat_lt j (entries bytes)), eqb_comm i j, common_comm (entry bytes i) (entry bytes j));
-  apart = λ i. let e = eq-eqb i i refl in and_right (nat_lt i (entries bytes) && nat_lt i (entries bytes)) _ (rw e);
-  within = λ i j h. let e = le-ltb i (entries bytes) h in rw e;
-}
+drawn_sound bytes = pairs_sound (entries bytes) _ (omega arith) (λ i j. common_comm (entry bytes i) (entry bytes j))

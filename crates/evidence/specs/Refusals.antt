@@ -1,5 +1,6 @@
 -- The refusals: their numbers and details, and the first question that is answered no.
-use Rattle.std.specs.Prelude.{ℕ, Bool, cond, List, [], ◌∷◌, Some, None, Option}
+use Rattle.std.specs.Prelude.{◌≡◌, ℕ, Bool, cond, not, ◌&&◌, List, [], ◌∷◌, ◌++◌, Some, None, Option, Ok, Err, Result, ◌==◌, nat_lt, codes}
+use Rattle.std.specs.Fmt.{decimal}
 use Rattle.evidence.specs.declared.refusal.Refusal.{Refusal}
 use Rattle.evidence.specs.declared.refusal.Refusal.TheVariants.{ManyBaselines, SquareSize, SquareByte, IssueOpen, NoSpan, Full, PastCount, SameBaseline, ManyPairs, Unresolved, ManyIssues, WrongPaper, NoLayout, NoRoom}
 
@@ -36,6 +37,10 @@ detail_of WrongPaper = 0
 detail_of (NoLayout baseline) = baseline
 detail_of (NoRoom bytes) = bytes
 
+-- How a refusal is printed.
+abbrev pub text_of : Refusal → List ℕ
+text_of r = decimal (number_of r) ++ codes ", detail " ++ decimal (detail_of r)
+
 -- A question at the door: whether it is answered yes, and the refusal if not.
 abbrev pub Question : Type 0
 Question = Bool × Refusal
@@ -44,3 +49,15 @@ Question = Bool × Refusal
 abbrev pub first_no : List Question → Option Refusal
 first_no [] = None
 first_no (q ∷ questions) = cond q.0 (first_no questions) (Some q.1)
+
+-- What is asked of two numbers of a pair: are both below the count, and do the two differ?
+abbrev pub pair_questions : ℕ → ℕ → ℕ → List Question
+pair_questions count i j =
+    (nat_lt i count && nat_lt j count, PastCount)
+    ∷ ((not (i == j), SameBaseline)
+    ∷ [])
+
+-- A call that asks is refused by the first question that is answered no, and by nothing else.
+abbrev pub Asked : {A : Type 0} → List Question → Result A Refusal → Type 0
+Asked questions (Ok a) = first_no questions ≡ None
+Asked questions (Err e) = first_no questions ≡ Some e

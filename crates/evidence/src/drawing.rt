@@ -5,6 +5,7 @@ ghost use Rattle.evidence.specs.Drawing.{drawn, drawn_sound, same_two, one_commo
 ghost use Rattle.evidence.specs.LineGraph.{LineGraph};
 
 use super::evidence::Evidence;
+use super::pair::ask_pair;
 
 /// Two bytes to a baseline, its two imager numbers. Bytes past the 128th and an odd last byte are not read.
 #[derive(Drop)]
@@ -16,7 +17,7 @@ pub struct Drawing<'a> {
 fn same_two(d: (u8, u8), e: (u8, u8)) -> bool
     ensures { result ≡ same_two d e }
 {
-    ((d.0 != d.1) & (e.0 != e.1)) & (((d.0 == e.0) & (d.1 == e.1)) | ((d.0 == e.1) & (d.1 == e.0)))
+    d.0 != d.1 && (d == e || d == (e.1, e.0))
 }
 
 // Whether exactly one number stands in both entries.
@@ -24,8 +25,8 @@ fn one_common(d: (u8, u8), e: (u8, u8)) -> bool
     ensures test { result ≡ one_common d e }
     ensures fact { (result ≡ true) ↔ ExactlyOne d e }
 {
-    let some = ((d.0 == e.0) | (d.0 == e.1)) | ((d.1 == e.0) | (d.1 == e.1));
-    some & !same_two(d, e)
+    let some = d.0 == e.0 || d.0 == e.1 || d.1 == e.0 || d.1 == e.1;
+    some && !same_two(d, e)
 }
 
 impl<'a> Evidence for Drawing<'a> {
@@ -38,11 +39,7 @@ impl<'a> Evidence for Drawing<'a> {
     }
 
     fn shares(&self, i: usize, j: usize) -> bool {
-        let n = self.count();
-        if i >= n || j >= n || i == j {
-            return false;
-        }
-        one_common(self.entry_of(i), self.entry_of(j))
+        ask_pair(self.count(), i, j).is_ok() && one_common(self.entry_of(i), self.entry_of(j))
     }
 }
 
@@ -61,15 +58,7 @@ impl Drawing<'_> {
         ensures { (result ≡ true) ↔ New self.now.bytes.now i }
     {
         let d = self.entry_of(i);
-        if d.0 == d.1 {
-            return false;
-        }
-        for j in 0..i {
-            if same_two(d, self.entry_of(j)) {
-                return false;
-            }
-        }
-        true
+        d.0 != d.1 && (0..i).all(|j| !same_two(d, self.entry_of(j)))
     }
 
     /// Whether each entry has two different numbers and no two entries hold the same two. A proper drawing is exactly
@@ -78,11 +67,6 @@ impl Drawing<'_> {
         ensures told { (result ≡ true) ↔ Proper self.now.bytes.now }
         ensures graph { Proper self.now.bytes.now → LineGraph (entries self.now.bytes.now) (entry self.now.bytes.now) (drawn self.now.bytes.now) }
     {
-        for i in 0..self.count() {
-            if !self.is_new(i) {
-                return false;
-            }
-        }
-        true
+        (0..self.count()).all(|i| self.is_new(i))
     }
 }

@@ -9,9 +9,6 @@ pub trait Evidence {
     // What a value means.
     ghost meaning: { Self → Table };
 
-    // Its kind shows that this is sound: at most 64, alike in both orders, no for equal numbers and from the count on.
-    ghost sound: { (x : Self) → Sound (meaning x) };
-
     /// How many baselines there are.
     fn count(&self) -> usize
         ensures { result ≡ (meaning self.now).count };
@@ -19,4 +16,7 @@ pub trait Evidence {
     /// Whether two baselines share; no for equal numbers and for numbers not below the count.
     fn shares(&self, i: usize, j: usize) -> bool
         ensures { result ≡ (meaning self.now).shares i j };
+
+    // Its kind shows that this is sound: at most 64, alike in both orders, no for equal numbers and from the count on.
+    ghost sound: { (x : Self) → Sound (meaning x) };
 }

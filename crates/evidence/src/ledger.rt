@@ -11,8 +11,6 @@ pub trait Ledger: Evidence {
     // How many sharing pairs it has room for. No call changes this.
     ghost most: { Self → ℕ };
 
-    ghost bounds: { (x : Self) → (1 ≤ most x) × (most x ≤ 2016) };
-
     /// How many sharing pairs there is room for, from 1 to 2,016.
     fn most(&self) -> u16
         ensures { result ≡ most self.now };
@@ -32,4 +30,7 @@ pub trait Ledger: Evidence {
     fn set(&mut self, i: usize, j: usize, on: bool) -> Result<bool, Refusal>
         ensures table { Set (Self.Evidence.meaning self.old) (Self.Evidence.meaning self.new) (most self.old) i j on result }
         ensures most { most self.new ≡ most self.old };
+
+    // Room for one pair at least, and at most for all that 64 baselines make.
+    ghost bounds: { (x : Self) → (1 ≤ most x) × (most x ≤ 2016) };
 }

@@ -5,6 +5,9 @@
 // The meaning of evidence, and of evidence that can be written.
 mod evidence;
 mod ledger;
+
+// Refusals, and the questions of a pair.
+mod pair;
 mod refusal;
 
 // Kinds of evidence that are only read.
@@ -16,5 +19,6 @@ pub use beside::Beside;
 pub use drawing::Drawing;
 pub use evidence::Evidence;
 pub use ledger::Ledger;
+pub use pair::ask_pair;
 pub use refusal::Refusal;
 pub use square::Square;

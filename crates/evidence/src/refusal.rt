@@ -1,7 +1,10 @@
 //! Why a call refuses: one word for each refusal.
 
-ghost use Rattle.std.specs.Prelude.{◌≡◌};
-ghost use Rattle.evidence.specs.Refusals.{number_of, detail_of};
+ghost use Rattle.std.specs.Prelude.{◌≡◌, Some};
+ghost use Rattle.evidence.specs.Refusals.{number_of, detail_of, text_of};
+
+use std::error::Error;
+use std::fmt;
 
 /// A refusal, with the detail that it names. docs/refusals.md lists them.
 #[derive(Clone, Copy, PartialEq, Eq, Debug)]
@@ -81,3 +84,16 @@ impl Refusal {
         }
     }
 }
+
+/// The number and the detail.
+impl fmt::Display for Refusal {
+    ghost output = { λ r. Some (text_of r) };
+
+    fn fmt<W: fmt::Write>(&self, f: &mut fmt::Formatter<W>) -> fmt::Result {
+        let number = self.number();
+        let detail = self.detail();
+        write!(f, "{number}, detail {detail}")
+    }
+}
+
+impl Error for Refusal {}

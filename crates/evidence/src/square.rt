@@ -4,6 +4,7 @@ ghost use Rattle.std.specs.Prelude.{◌≡◌, ◌<◌};
 ghost use Rattle.evidence.specs.Square.{marked, side, squared, squared_sound};
 
 use super::evidence::Evidence;
+use super::pair::ask_pair;
 
 /// A count n, and n rows of n bytes. Two different baselines share when the byte at their row and column and its mirror
 /// byte are both 1. With n above 64, or with other than n × n bytes, there are no baselines.
@@ -27,11 +28,7 @@ impl<'a> Evidence for Square<'a> {
     }
 
     fn shares(&self, i: usize, j: usize) -> bool {
-        let n = self.count();
-        if i >= n || j >= n || i == j {
-            return false;
-        }
-        self.is_marked(i, j) && self.is_marked(j, i)
+        ask_pair(self.count(), i, j).is_ok() && self.is_marked(i, j) && self.is_marked(j, i)
     }
 }
 

@@ -3,7 +3,7 @@
 ghost use Rattle.std.specs.Prelude.{◌≡◌};
 ghost use Rattle.kinds.specs.Ring.{ring, ring_sound};
 
-use evidence::Evidence;
+use evidence::{Evidence, ask_pair};
 
 /// So many baselines in a ring, at most 64.
 #[derive(Drop)]
@@ -22,9 +22,6 @@ impl Evidence for Ring {
 
     fn shares(&self, i: usize, j: usize) -> bool {
         let n = self.count();
-        if i >= n || j >= n || i == j {
-            return false;
-        }
-        (i + 1) % n == j || (j + 1) % n == i
+        ask_pair(n, i, j).is_ok() && ((i + 1) % n == j || (j + 1) % n == i)
     }
 }

@@ -3,6 +3,7 @@ use Rattle.std.proofs.Common.{◌≡◌, ℕ, zero, suc, ◌+◌, ◌<◌, ◌�
 use Rattle.std.proofs.lemmas.List.{length-take}
 use Rattle.evidence.specs.declared.evidence.Evidence.{Ghosts as EvidenceGhosts}
 use Rattle.evidence.specs.declared.ledger.Ledger.{Ghosts as LedgerGhosts}
+use Rattle.evidence.specs.Table.{Sound}
 use Rattle.theory.specs.Record.{ends_of, doubt_of}
 use Rattle.files.proofs.Sizes.{bytes_fit}
 use Rattle.survey.specs.declared.survey.Survey.{Survey}
@@ -33,10 +34,11 @@ take_below (suc m) (x ∷ xs) n p h (suc i) = take_below m xs n p (λ j. h (suc 
 
 -- both files of an issue that is begun have room in 4,096 bytes
 pub both_fit : {L : Type 0} (e : EvidenceGhosts L) (g : LedgerGhosts L) (s : Survey L g e) (begun : ℕ) (stage : Stage) → begun ≤ 9999
+    → Sound (e.meaning s.ledger)
     → length (profile_text (with_issue (view e g s) begun stage)) + length (table_text (with_issue (view e g s) begun stage)) ≤ 4096
-both_fit e g s begun stage b =
+both_fit e g s begun stage b sound =
     let n = (e.meaning s.ledger).count in
-    let few : length (take n s.spans) ≤ 64 = rw length-take (omega (arith, (e.sound s.ledger).few)) in
+    let few : length (take n s.spans) ≤ 64 = rw length-take (omega (arith, sound.few)) in
     omega (
       arith,
       bytes_fit s.number begun s.imagers (take n s.spans) (ends_of s.kept) (doubt_of s.kept)

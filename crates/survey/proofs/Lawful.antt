@@ -34,7 +34,7 @@ find : (n most : ℕ) (newer older : List Event) (x : Event) → Past n most (ne
 find n most [] older x p = p.0
 find n most (y ∷ newer) older x p = find n most newer older x p.1
 
-module _ {L : Type 0} (e : EvidenceGhosts L) (g : LedgerGhosts L) (n most : ℕ) (start : Survey L g e) (fresh : Fresh n most (view e g start)) where
+module _ {L : Type 0} (e : EvidenceGhosts L) (g : LedgerGhosts L) (sound : (x : L) → Sound (e.meaning x)) (n most : ℕ) (start : Survey L g e) (fresh : Fresh n most (view e g start)) where
   first : Tells n most [] (view e g start)
   first = record {
     kept = start.kept;
@@ -43,7 +43,7 @@ module _ {L : Type 0} (e : EvidenceGhosts L) (g : LedgerGhosts L) (n most : ℕ)
       number = fresh.numbered x;
       table = record {
         count = fresh.baselines x;
-        shares = λ a b. (e.sound start.ledger).within a b (omega (arith, fresh.baselines)) x;
+        shares = λ a b. (sound start.ledger).within a b (omega (arith, fresh.baselines)) x;
       };
       most = fresh.room x;
       spans = fresh.spans x;
@@ -62,7 +62,7 @@ module _ {L : Type 0} (e : EvidenceGhosts L) (g : LedgerGhosts L) (n most : ℕ)
     kept = k.kept;
     imagers = k.imagers;
     after = view e g t;
-    sound = subst (λ (v : View). Sound v.table) k.is (e.sound s.ledger);
+    sound = subst (λ (v : View). Sound v.table) k.is (sound s.ledger);
     stands = k.stands;
     took = subst (λ v. Step v x (view e g t)) k.is st;
   }
@@ -105,9 +105,9 @@ module _ {L : Type 0} (e : EvidenceGhosts L) (g : LedgerGhosts L) (n most : ℕ)
       }
 
 -- both clauses of `open`, from the first
-pub opens : {L : Type 0} (e : EvidenceGhosts L) (g : LedgerGhosts L) (n most : ℕ) (s : Survey L g e) → Fresh n most (view e g s)
+pub opens : {L : Type 0} (e : EvidenceGhosts L) (g : LedgerGhosts L) → ((x : L) → Sound (e.meaning x)) → (n most : ℕ) (s : Survey L g e) → Fresh n most (view e g s)
     → record { fresh : Fresh n most (view e g s); lawful : Lawful e g n most s }
-opens e g n most s fresh = record { fresh = fresh; lawful = lawful e g n most s fresh }
+opens e g sound n most s fresh = record { fresh = fresh; lawful = lawful e g sound n most s fresh }
 
 -- both clauses of a call, from the first
 pub goes_on : {L : Type 0} (e : EvidenceGhosts L) (g : LedgerGhosts L) (s t : Survey L g e) (x : Event) → Step (view e g s) x (view e g t)

@@ -1,11 +1,10 @@
-use Rattle.std.proofs.Common.{not, ◌&&◌, sym, ap, ◌∙◌}
-use Rattle.evidence.specs.Drawing.{some_common}
+use Rattle.std.proofs.Common.{◌≡◌, not, sym, ◌∙◌, rules}
+use Rattle.evidence.specs.Drawing.{one_common}
 use Rattle.evidence.proofs.Drawings.{one_tells}
 use Rattle.evidence.proofs.drawing.one_common.Goals as goal
 
-pub returns : goal.returns
-returns c =
-    let d = c.args.d in
-    let e = c.args.e in
-    let same = ap (λ b. some_common d e && not b) c.same_two.ensures in
-    record { test = same; fact = ((λ h. (one_tells d e).0 (sym same ∙ h)), (λ x. same ∙ (one_tells d e).1 x)) }
+pub returns-then-some-clause-fact : goal.returns-then-some-clause-fact
+returns-then-some-clause-fact c =
+    let tells = one_tells c.args.d c.args.e in
+    let test : not c.same_two.result ≡ one_common c.args.d c.args.e = search rules in
+    ((λ h. tells.0 (sym test ∙ h)), (λ x. test ∙ tells.1 x))

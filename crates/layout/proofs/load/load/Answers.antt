@@ -7,16 +7,16 @@ loop-i-init g c = loaded_none (g.E.Evidence.meaning c.args.evidence.now) c.empty
 
 pub loop-i-preserved : goal.loop-i-preserved
 loop-i-preserved g c =
-    let few = (g.E.Evidence.sound c.args.evidence.now).few in
+    let few = (g.met.E.Evidence.sound c.args.evidence.now).few in
     loaded_more (g.E.Evidence.meaning c.args.evidence.now) c.loop-i.rows c.loop-i.i c.load_row.result
     (omega (arith, c.count-count.ensures)) c.load_row.ensures c.loop-i.invariant
 
 pub invariant_of-result : goal.invariant_of-result
 invariant_of-result g c =
-    loaded_kept (g.E.Evidence.meaning c.args.evidence.now) (g.E.Evidence.sound c.args.evidence.now)
+    loaded_kept (g.E.Evidence.meaning c.args.evidence.now) (g.met.E.Evidence.sound c.args.evidence.now)
     c.count-count.result c.loop-i.rows c.count-count.ensures c.loop-i.i c.loop-i-test.false c.loop-i.invariant
 
 pub returns : goal.returns
 returns g c =
-    loaded_told (g.E.Evidence.meaning c.args.evidence.now) (g.E.Evidence.sound c.args.evidence.now)
+    loaded_told (g.E.Evidence.meaning c.args.evidence.now) (g.met.E.Evidence.sound c.args.evidence.now)
     c.count-count.result c.loop-i.rows c.count-count.ensures c.loop-i.i c.loop-i-test.false c.loop-i.invariant

@@ -13,7 +13,7 @@ loop-j-init g c = (
 pub loop-j-preserved : goal.loop-j-preserved
 loop-j-preserved g c =
     let f = (g.E.Evidence.meaning c.args.evidence.now).shares c.args.i in
-    let few = (g.E.Evidence.sound c.args.evidence.now).few in
+    let few = (g.met.E.Evidence.sound c.args.evidence.now).few in
     let l : c.loop-j.j < 64 = omega (arith, few, c.loop-j-test.true, c.count-j-end.ensures) in
     elim c.if-shares.branch [
       | then-shares w ↦ (
@@ -33,5 +33,5 @@ pub returns : goal.returns
 returns g c =
     let t = g.E.Evidence.meaning c.args.evidence.now in
     let e : c.loop-j.j ≡ t.count = omega (arith, c.count-j-end.ensures) in
-    all_asked t (g.E.Evidence.sound c.args.evidence.now) c.args.i c.loop-j.row.bits c.loop-j.invariant.0
+    all_asked t (g.met.E.Evidence.sound c.args.evidence.now) c.args.i c.loop-j.row.bits c.loop-j.invariant.0
     (λ k. c.loop-j.invariant.1 k ∙ ap (λ n. ltb k n && t.shares c.args.i k) e)

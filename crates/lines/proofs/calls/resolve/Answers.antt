@@ -20,5 +20,5 @@ returns-in_err-found g c =
     let v = view g.L.Evidence g.L.Ledger c.args.survey.now in
     rw (p.1, p.2) (record {
       served = (_, Err _, (Err _, refl, made.told, refl), (refl, refl), made.run);
-      small = resolve_detail v _ (g.L.Evidence.sound c.args.survey.now.ledger) made.told.0;
+      small = resolve_detail v _ (g.met.L.Evidence.sound c.args.survey.now.ledger) made.told.0;
     })

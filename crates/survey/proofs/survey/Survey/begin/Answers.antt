@@ -20,6 +20,6 @@ returns-then-self-ge-MOST_ISSUES g c = nothing_begun (goes_on g.L.Evidence g.L.L
 pub returns : goal.returns
 returns g c =
     let few : c.args.self.now.begun + 1 ≤ 9999 = omega arith in
-    let fit = both_fit g.L.Evidence g.L.Ledger c.args.self.now (c.args.self.now.begun + 1) Begun few in
+    let fit = both_fit g.L.Evidence g.L.Ledger c.args.self.now (c.args.self.now.begun + 1) Begun few (g.met.L.Evidence.sound c.args.self.now.ledger) in
     let k = goes_on g.L.Evidence g.L.Ledger _ _ _ (search rules) in
     record { told = k.told; run = k.run; room = fit }

@@ -11,7 +11,7 @@ returns-in-Ok g c =
     let idle = sym c.is_idle.ensures ∙ c.if-not-is_idle.false in
     let counted = c.count_doubtful-doubtful.ensures in
     let few : c.count_doubtful-doubtful.result ≤ 64 =
-    omega (arith, counted.few, c.count.ensures, (g.L.Evidence.sound c.args.self.now.ledger).few) in
+    omega (arith, counted.few, c.count.ensures, (g.met.L.Evidence.sound c.args.self.now.ledger).few) in
     let k = goes_on g.L.Evidence g.L.Ledger _ _ _ (
       rw idle,
       c.in-Ok.ensures.placed.0,
