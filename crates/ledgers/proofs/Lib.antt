@@ -1,9 +1,7 @@
--- What a write leaves of a grid.
+-- One baseline more, and what is answered of a pair.
+pub mod Growth
+pub mod Sets
+-- What a write leaves of a grid, and of a list.
 pub mod Grids
--- What is listed; one pair more, one pair fewer.
 pub mod Listed
-pub mod Found
-pub mod Kept
-pub mod Added
-pub mod Removed
 pub mod Tests

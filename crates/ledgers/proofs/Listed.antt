@@ -1,67 +1,180 @@
--- What is listed among the first entries.
-use Rattle.std.proofs.Common.{◌≡◌, ℕ, zero, suc, ◌+◌, ◌<◌, ◌≤◌, true, false, List, length, get_or, set, sym, refl, ap, ◌∙◌, ⊎_elim, add-one, arith}
-use Rattle.std.proofs.lemmas.List.{get_or-set_same, get_or-set_other}
-use Rattle.std.proofs.lemmas.Bool.{cases_eq, or_from, or_left, or_right, or_cases, both_ways, false_from_ne_true}
-use Rattle.evidence.specs.Changes.{is_pair}
-use Rattle.ledgers.specs.Listing.{hit, listed}
+-- What a list of pairs keeps from call to call.
+use Rattle.std.proofs.Common.{◌≡◌, ℕ, suc, ◌+◌, ◌<◌, ◌≤◌, Bool, true, false, cond, not, ◌||◌, ltb, is_some, Some, None, Ok, Err, List, [], ◌∷◌, ◌++◌, length, get_or, sym, refl, ap, ◌∙◌, arith}
+use Rattle.std.specs.List.{list_any, count_by, position, position_or_len, swap_remove}
+use Rattle.std.proofs.lemmas.Bool.Decides.{nat_tests}
+use Rattle.std.proofs.lemmas.List.Quantifiers.{position-Some}
+use Rattle.std.proofs.lemmas.List.Sums.{sum_by-cons, sum_by_push, sum_by-swap_remove}
+use Rattle.evidence.specs.declared.refusal.Refusal.TheVariants.{ManyPairs}
+use Rattle.evidence.specs.Table.{Sound}
+use Rattle.evidence.specs.Pairs.{pairs}
+use Rattle.evidence.specs.Changes.{is_pair, Set}
+use Rattle.evidence.proofs.PairCounts.{one_if, pairs_none, pairs_put}
+use Rattle.evidence.proofs.Puts.{put_sound, put_same}
+use Rattle.ledgers.specs.declared.pair_list.PairList.{PairList}
+use Rattle.ledgers.specs.Listing.{hit, listing}
+use Rattle.ledgers.proofs.Sets.{Pair, set_had, set_full, set_off, set_on}
 
--- the entries of a list: a pair of numbers at each place
 abbrev pub Entries : Type 0
 Entries = List (ℕ × ℕ)
 
--- the first number of the entry at place k
-abbrev pub one : Entries → ℕ → ℕ
-one ps k = (get_or ps k (0, 0)).0
+-- no pair stands twice
+abbrev pub Once : Entries → Type 0
+Once xs = (i j : ℕ) → count_by (hit i j) xs ≤ 1
 
--- and the second
-abbrev pub two : Entries → ℕ → ℕ
-two ps k = (get_or ps k (0, 0)).1
+-- what a list keeps, by its ghost fields
+abbrev pub Kept : ℕ → Entries → Type 0
+Kept n xs = record { sound : Sound (listing n xs); once : Once xs; counted : length xs ≡ pairs (listing n xs) }
 
--- ---- places
+-- no baselines
+pub kept_none : (xs : Entries) → xs ≡ [] → Kept 0 xs
+kept_none xs e = rw e (record {
+  sound = record { few = omega arith; alike = λ _ _. refl; apart = λ _. refl; within = λ _ _ _. refl };
+  once = λ i j. omega arith;
+  counted = sym (pairs_none (listing 0 []) refl);
+})
 
--- a pair that is at no place below n + 1
-pub listed_more : (ps : Entries) (n i j : ℕ) → hit ps i j n ≡ false → listed ps n i j ≡ false → listed ps (n + 1) i j ≡ false
-listed_more ps n i j here before = rw add-one (or_from (hit ps i j n) (listed ps n i j) here before)
+-- ---- whether an entry passes, and how many do
 
--- a pair at some place is listed
-pub listed_at : (ps : Entries) (n i j k : ℕ) → k < n → hit ps i j k ≡ true → listed ps n i j ≡ true
-listed_at ps zero i j k l h = absurd (omega arith)
-listed_at ps (suc n) i j k l h =
-    ⊎_elim
-    (λ e. or_left (hit ps i j n) (listed ps n i j) (ap (hit ps i j) (sym e) ∙ h))
-    (λ ne. or_right (hit ps i j n) (listed ps n i j) (listed_at ps n i j k (omega arith) h))
-    (cases_eq k n)
+first_step : (b a : Bool) (k n : ℕ) → ltb k n ≡ a → ltb (cond (not b) (1 + k) 0) (suc n) ≡ (b || a)
+first_step true a k n e = grind (arith, nat_tests)
+first_step false a k n e = grind (arith, nat_tests, e)
 
--- a listed pair is at some place
-pub listed_where : (ps : Entries) (n i j : ℕ) → listed ps n i j ≡ true → (k : ℕ) × (k < n) × (hit ps i j k ≡ true)
-listed_where ps zero i j h = absurd (both_ways false refl h)
-listed_where ps (suc n) i j h =
-    ⊎_elim
-    (λ e. (n, omega arith, e))
-    (λ e. let w = listed_where ps n i j e in (w.0, omega (arith, w.1), w.2))
-    (or_cases (hit ps i j n) (listed ps n i j) h)
+first_any : {X : Type 0} (p : X → Bool) (xs : List X) → ltb (position_or_len p xs) (length xs) ≡ list_any p xs
+first_any p [] = refl
+first_any p (x ∷ xs) = first_step (p x) (list_any p xs) (position_or_len p xs) (length xs) (first_any p xs)
 
--- a pair that is not listed is at none
-pub listed_none : (ps : Entries) (n i j k : ℕ) → listed ps n i j ≡ false → k < n → hit ps i j k ≡ false
-listed_none ps n i j k h l =
-    false_from_ne_true (hit ps i j k) (λ e. both_ways (listed ps n i j) h (listed_at ps n i j k l e))
+some_if : (b : Bool) (k : ℕ) → is_some (cond b (Some k) None) ≡ b
+some_if true k = refl
+some_if false k = refl
 
--- a pair that is at no place is not listed
-pub none_listed : (ps : Entries) (n i j : ℕ) → ((k : ℕ) → k < n → hit ps i j k ≡ false) → listed ps n i j ≡ false
-none_listed ps zero i j h = refl
-none_listed ps (suc n) i j h = or_from (hit ps i j n) (listed ps n i j) (h n (omega arith)) (none_listed ps n i j (λ k l. h k (omega arith)))
+-- a place is found exactly where an entry passes
+pub found_any : {X : Type 0} (p : X → Bool) (xs : List X) → is_some (position p xs) ≡ list_any p xs
+found_any p xs = some_if _ _ ∙ first_any p xs
 
--- ---- one entry written
+count_step : (b a : Bool) (m n : ℕ) → n ≡ one_if b + m → n ≤ 1 → (m ≤ 1 → one_if a ≡ m) → one_if (b || a) ≡ n
+count_step true a m n e h k = omega (arith, e, h)
+count_step false a m n e h k = omega (arith, e, k (omega (arith, e, h)))
 
--- the entries at other places are as they were
-pub hit_other : (ps : Entries) (k m : ℕ) (e : ℕ × ℕ) (a b : ℕ) → (m ≡ k → ⊥) → hit (set ps k e) a b m ≡ hit ps a b m
-hit_other ps k m e a b ne = ap (λ (p : ℕ × ℕ). is_pair a b p.0 p.1) (get_or-set_other ps k m e (0, 0) ne)
+-- where at most one passes, that one tells how many do
+any_counts : {X : Type 0} (p : X → Bool) (xs : List X) → count_by p xs ≤ 1 → one_if (list_any p xs) ≡ count_by p xs
+any_counts p [] h = refl
+any_counts p (x ∷ xs) h = count_step (p x) (list_any p xs) _ _ (sum_by-cons (λ y. one_if (p y)) x xs) h (any_counts p xs)
 
--- the entry written is read at its place
-pub hit_same : (ps : Entries) (k : ℕ) (e : ℕ × ℕ) (a b : ℕ) → k < length ps → hit (set ps k e) a b k ≡ is_pair a b e.0 e.1
-hit_same ps k e a b l = ap (λ (p : ℕ × ℕ). is_pair a b p.0 p.1) (get_or-set_same ps k e (0, 0) l)
+-- ---- one entry more or fewer
 
--- a write at n leaves what is listed below n
-pub listed_below : (ps : Entries) (n m : ℕ) (e : ℕ × ℕ) (a b : ℕ) → m ≤ n → listed (set ps n e) m a b ≡ listed ps m a b
-listed_below ps n zero e a b l = refl
-listed_below ps n (suc m) e a b l = let h = hit_other ps n m e a b (λ q. omega arith) in let r = listed_below ps n m e a b (omega arith) in cc
+-- an entry that is the pair i, j is the pairs that are i, j
+same_hit : (i j a b p q : ℕ) → is_pair i j p q ≡ true → is_pair a b p q ≡ is_pair i j a b
+same_hit i j a b p q h = grind (arith, nat_tests, h)
+
+itself : (i j : ℕ) → is_pair i j i j ≡ true
+itself i j = grind (arith, nat_tests)
+
+taken : (same old new : Bool) → one_if new + one_if same ≡ one_if old → new ≡ cond same false old
+taken true true true h = absurd (omega (arith, h))
+taken true true false h = refl
+taken true false new h = absurd (omega (arith, h))
+taken false true true h = refl
+taken false true false h = absurd (omega (arith, h))
+taken false false true h = absurd (omega (arith, h))
+taken false false false h = refl
+
+given : (same old new : Bool) → one_if new ≡ one_if old + one_if same → new ≡ cond same true old
+given true old true h = refl
+given true old false h = absurd (omega (arith, h))
+given false true true h = refl
+given false true false h = absurd (omega (arith, h))
+given false false true h = absurd (omega (arith, h))
+given false false false h = refl
+
+-- a pair that was not listed stands at most once
+free : (same old : Bool) → old ≡ cond same false old → one_if old + one_if same ≤ 1
+free true old e = rw e (omega arith)
+free false true e = omega arith
+free false false e = omega arith
+
+module _ (x : PairList) (i j : ℕ) (on : Bool) (pair : Pair x.baselines.count i j) where
+  abbrev n : ℕ
+  n = x.baselines.count
+
+  abbrev xs : Entries
+  xs = x.entries.items
+
+  -- the pair given a state
+  put_kept : (ys : Entries) (state : Bool) → Once ys
+      → ((a b : ℕ) → list_any (hit a b) ys ≡ cond (is_pair i j a b) state (list_any (hit a b) xs))
+      → length ys + one_if (list_any (hit i j) xs) ≡ length xs + one_if state
+      → Kept n ys
+  put_kept ys state once put moved = record {
+    sound = put_sound (listing n xs) (listing n ys) i j state x.sound pair.0 pair.1 pair.2 refl put;
+    once = once;
+    counted = omega (arith, moved, x.counted, pairs_put (listing n xs) (listing n ys) state refl i j pair.2 pair.0 pair.1 x.sound put);
+  }
+
+  -- ---- the pair is listed
+  module _ (place : ℕ) (found : position (hit i j) xs ≡ Some place) where
+    listed : list_any (hit i j) xs ≡ true
+    listed = sym (found_any (hit i j) xs) ∙ ap is_some found
+
+    -- and stays so
+    pub set_listed : on ≡ true → Set (listing n xs) (listing n xs) 512 i j on (Ok false)
+    set_listed is = set_had (listing n xs) 512 i j pair on x.sound (listed ∙ sym is)
+
+    -- and is taken off: the last entry takes its place
+    module _ (d : ℕ × ℕ) (ys : Entries) (is : ys ≡ swap_remove xs place d) where
+      counts : (a b : ℕ) → count_by (hit a b) ys + one_if (is_pair i j a b) ≡ count_by (hit a b) xs
+      counts a b =
+          let at = position-Some (hit i j) xs place d found in
+          let e = get_or xs place d in
+          rw is
+          (ap (λ m. count_by (hit a b) (swap_remove xs place d) + one_if m) (sym (same_hit i j a b e.0 e.1 at.1))
+          ∙ sum_by-swap_remove (λ y. one_if (hit a b y)) xs place d at.0)
+
+      removed_once : Once ys
+      removed_once a b = omega (arith, counts a b, x.once a b)
+
+      removed_put : (a b : ℕ) → list_any (hit a b) ys ≡ cond (is_pair i j a b) false (list_any (hit a b) xs)
+      removed_put a b =
+          taken (is_pair i j a b) _ _
+          (omega (arith, counts a b, any_counts (hit a b) xs (x.once a b), any_counts (hit a b) ys (removed_once a b)))
+
+      pub removed_kept : length ys + 1 ≡ length xs → Kept n ys
+      removed_kept less = put_kept ys false removed_once removed_put (omega (arith, less, ap one_if listed))
+
+      pub set_removed : on ≡ false → Set (listing n xs) (listing n ys) 512 i j on (Ok true)
+      set_removed is = set_off (listing n xs) 512 i j pair (listing n ys) refl on is listed removed_put
+
+  -- ---- the pair is not listed
+  module _ (absent : position (hit i j) xs ≡ None) where
+    unlisted : list_any (hit i j) xs ≡ false
+    unlisted = sym (found_any (hit i j) xs) ∙ ap is_some absent
+
+    -- and stays so
+    pub set_unlisted : on ≡ false → Set (listing n xs) (listing n xs) 512 i j on (Ok false)
+    set_unlisted is = set_had (listing n xs) 512 i j pair on x.sound (unlisted ∙ sym is)
+
+    -- and finds no room
+    pub set_roomless : on ≡ true → length xs ≡ 512 → Set (listing n xs) (listing n xs) 512 i j on (Err ManyPairs)
+    set_roomless is full = set_full (listing n xs) 512 i j pair on is unlisted (omega (arith, x.counted, full))
+
+    -- and is put at the end
+    module _ (ys : Entries) (is : ys ≡ xs ++ (i, j) ∷ []) where
+      more : (a b : ℕ) → count_by (hit a b) ys ≡ count_by (hit a b) xs + one_if (is_pair i j a b)
+      more a b =
+          rw is
+          (sum_by_push (λ y. one_if (hit a b y)) xs (i, j)
+          ∙ ap (λ m. count_by (hit a b) xs + one_if m) (same_hit i j a b i j (itself i j)))
+
+      added_once : Once ys
+      added_once a b =
+          omega (arith, more a b, any_counts (hit a b) xs (x.once a b), free (is_pair i j a b) _ (put_same (listing n xs) i j false x.sound unlisted a b))
+
+      added_put : (a b : ℕ) → list_any (hit a b) ys ≡ cond (is_pair i j a b) true (list_any (hit a b) xs)
+      added_put a b =
+          given (is_pair i j a b) _ _
+          (omega (arith, more a b, any_counts (hit a b) xs (x.once a b), any_counts (hit a b) ys (added_once a b)))
+
+      pub added_kept : length ys ≡ length xs + 1 → Kept n ys
+      added_kept one = put_kept ys true added_once added_put (omega (arith, one, ap one_if unlisted))
+
+      pub set_added : on ≡ true → length xs < 512 → Set (listing n xs) (listing n ys) 512 i j on (Ok true)
+      set_added is room = set_on (listing n xs) 512 i j pair (listing n ys) refl on is unlisted (omega (arith, x.counted, room)) added_put

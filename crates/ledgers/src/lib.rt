@@ -2,6 +2,7 @@
 
 #![tactic(auto)]
 
+mod baselines;
 mod pair_list;
 mod word_grid;
 

@@ -1,12 +1,14 @@
 //! A ledger that keeps a list of the pairs that share.
 
-ghost use Rattle.std.specs.Prelude.{◌≡◌, ℕ, ◌<◌, ◌≤◌, Bool, true, false, length, MatchOption, ◌≢◌, slice_index_or};
+ghost use Rattle.std.specs.Prelude.{◌≡◌, ℕ, ◌≤◌, length, count_by, position};
 ghost use Rattle.std.proofs.Common.{arith};
-ghost use Rattle.evidence.specs.Changes.{Put};
 ghost use Rattle.evidence.specs.Pairs.{pairs};
-ghost use Rattle.ledgers.specs.Listing.{hit, listed, listing, FoundAt};
+ghost use Rattle.evidence.specs.Table.{Sound};
+ghost use Rattle.ledgers.specs.Listing.{hit, listing};
 
-use evidence::{Evidence, Ledger, Refusal};
+use super::baselines::Baselines;
+use arrayvec::ArrayVec;
+use evidence::{Evidence, Ledger, Refusal, ask_pair};
 
 // How many pairs there is room for.
 const LIST_MOST: usize = 512;
@@ -14,80 +16,43 @@ const LIST_MOST: usize = 512;
 /// The pairs that share, each once, in no order. There is room for 512.
 #[derive(Drop)]
 pub struct PairList {
-    entries: [(u8, u8); 512],
-    used: usize,
-    count: usize,
-    ghost long: { length entries ≡ 512 },
-    ghost few: { count ≤ 64 },
-    ghost room: { used ≤ 512 },
-    ghost once: { (k : ℕ) → k < used → listed entries k (slice_index_or entries k (0, 0)).0 (slice_index_or entries k (0, 0)).1 ≡ false },
-    ghost alike: { (i j : ℕ) → listed entries used i j ≡ listed entries used j i },
-    ghost apart: { (i : ℕ) → listed entries used i i ≡ false },
-    ghost within: { (i j : ℕ) → count ≤ i → listed entries used i j ≡ false },
-    ghost counted: { used ≡ pairs (listing count entries used) },
+    entries: ArrayVec<(u8, u8), LIST_MOST>,
+    baselines: Baselines,
+    ghost sound: { Sound (listing baselines.count entries.items) },
+    ghost once: { (i j : ℕ) → count_by (hit i j) entries.items ≤ 1 },
+    ghost counted: { length entries.items ≡ pairs (listing baselines.count entries.items) },
 }
 
 impl PairList {
     /// A list with no baselines.
     pub fn new() -> Self
-        ensures { (listing result.count result.entries result.used).count ≡ 0 }
+        ensures { (listing result.baselines.count result.entries.items).count ≡ 0 }
     {
         PairList {
-            entries: [(0, 0); 512],
-            used: 0,
-            count: 0,
+            entries: ArrayVec::new(),
+            baselines: Baselines { count: 0 },
         }
     }
 
     // The place of a pair, if it is listed.
     fn find(&self, i: usize, j: usize) -> Option<usize>
-        ensures { MatchOption result (listed self.now.entries self.now.used i j ≡ false) (FoundAt self.now.entries self.now.used i j) }
+        ensures { result ≡ position (hit i j) self.now.entries.items }
     {
-        for k in 0..self.used {
-            let (a, b) = self.entries[k];
-            let p = a as usize;
-            let q = b as usize;
-            if ((p == i) & (q == j)) | ((p == j) & (q == i)) {
-                return Some(k);
-            }
-        }
-        None
-    }
-
-    // Lists one pair more.
-    fn add(&mut self, i: usize, j: usize)
-        requires one { i < self.old.count }
-        requires two { j < self.old.count }
-        requires differ { i ≢ j }
-        requires fresh { listed self.old.entries self.old.used i j ≡ false }
-        requires less { self.old.used < 512 }
-        ensures { Put (listing self.old.count self.old.entries self.old.used) (listing self.new.count self.new.entries self.new.used) i j true true }
-    {
-        self.entries[self.used] = (i as u8, j as u8);
-        self.used += 1;
-    }
-
-    // Takes the pair at place k off the list: the last entry comes there.
-    fn remove(&mut self, i: usize, j: usize, k: usize)
-        requires one { i < self.old.count }
-        requires two { j < self.old.count }
-        requires differ { i ≢ j }
-        requires found { FoundAt self.old.entries self.old.used i j k }
-        ensures { Put (listing self.old.count self.old.entries self.old.used) (listing self.new.count self.new.entries self.new.used) i j false true }
-    {
-        let last = self.used - 1;
-        self.entries[k] = self.entries[last];
-        self.used = last;
+        self.entries.iter().position(|entry| {
+            let p = usize::from(entry.0);
+            let q = usize::from(entry.1);
+            ((p == i) & (q == j)) | ((p == j) & (q == i))
+        })
     }
 }
 
 impl Evidence for PairList {
-    ghost meaning = { λ x. listing x.count x.entries x.used };
+    ghost meaning = { λ x. listing x.baselines.count x.entries.items };
 
-    ghost sound = { λ x. record { few = x.few; alike = x.alike; apart = x.apart; within = x.within } };
+    ghost sound = { λ x. x.sound };
 
     fn count(&self) -> usize {
-        self.count
+        self.baselines.count
     }
 
     fn shares(&self, i: usize, j: usize) -> bool {
@@ -101,45 +66,35 @@ impl Ledger for PairList {
     ghost bounds = { λ _. (omega arith, omega arith) };
 
     fn most(&self) -> u16 {
-        LIST_MOST as u16
+        self.entries.capacity() as u16
     }
 
     fn clear(&mut self) {
-        self.used = 0;
-        self.count = 0;
+        self.entries.clear();
+        self.baselines = Baselines { count: 0 };
     }
 
     fn grow(&mut self) -> Result<usize, Refusal> {
-        let n = self.count;
-        if n >= 64 {
-            return Err(Refusal::Full);
-        }
-        self.count = n + 1;
-        Ok(n)
+        self.baselines.grow()
     }
 
     fn set(&mut self, i: usize, j: usize, on: bool) -> Result<bool, Refusal> {
-        if i >= self.count || j >= self.count {
-            return Err(Refusal::PastCount);
-        }
-        if i == j {
-            return Err(Refusal::SameBaseline);
-        }
+        ask_pair(self.baselines.count, i, j)?;
         match self.find(i, j) {
-            Some(k) => {
+            Some(place) => {
                 if on {
                     return Ok(false);
                 }
-                self.remove(i, j, k);
+                self.entries.swap_remove(place);
             }
             None => {
                 if !on {
                     return Ok(false);
                 }
-                if self.used >= LIST_MOST {
+                if self.entries.is_full() {
                     return Err(Refusal::ManyPairs);
                 }
-                self.add(i, j);
+                self.entries.push((i as u8, j as u8));
             }
         }
         Ok(true)

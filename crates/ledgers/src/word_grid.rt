@@ -1,13 +1,15 @@
 //! A ledger that keeps a row of bits for each baseline.
 
-ghost use Rattle.std.specs.Prelude.{◌≡◌, ℕ, ◌≤◌, Bool, true, false, ◌&&◌, length, if◌then◌else◌, nat_eq, nat_lt};
+ghost use Rattle.std.specs.Prelude.{◌≡◌, ℕ, ◌≤◌, Bool, ◌&&◌, length, if◌then◌else◌, nat_eq, nat_lt};
 ghost use Rattle.std.proofs.Common.{arith};
 ghost use Rattle.bitset.specs.Sets.{has};
 ghost use Rattle.evidence.specs.Pairs.{pairs};
+ghost use Rattle.evidence.specs.Table.{Sound};
 ghost use Rattle.ledgers.specs.Grid.{grid};
 
+use super::baselines::Baselines;
 use bitset::BaselineSet;
-use evidence::{Evidence, Ledger, Refusal};
+use evidence::{Evidence, Ledger, Refusal, ask_pair};
 
 // How many pairs 64 baselines make.
 const GRID_MOST: u16 = 2016;
@@ -16,36 +18,33 @@ const GRID_MOST: u16 = 2016;
 #[derive(Drop)]
 pub struct WordGrid {
     rows: [BaselineSet; 64],
-    count: usize,
+    baselines: Baselines,
     sharing: u16,
     ghost long: { length rows ≡ 64 },
-    ghost few: { count ≤ 64 },
-    ghost alike: { (i j : ℕ) → (grid count rows).shares i j ≡ (grid count rows).shares j i },
-    ghost apart: { (i : ℕ) → (grid count rows).shares i i ≡ false },
-    ghost within: { (i j : ℕ) → count ≤ i → (grid count rows).shares i j ≡ false },
-    ghost counted: { sharing ≡ pairs (grid count rows) },
+    ghost sound: { Sound (grid baselines.count rows) },
+    ghost counted: { sharing ≡ pairs (grid baselines.count rows) },
 }
 
 impl WordGrid {
     /// A grid with no baselines.
     pub fn new() -> Self
-        ensures { (grid result.count result.rows).count ≡ 0 }
+        ensures { (grid result.baselines.count result.rows).count ≡ 0 }
     {
         WordGrid {
             rows: [BaselineSet::empty(); 64],
-            count: 0,
+            baselines: Baselines { count: 0 },
             sharing: 0,
         }
     }
 }
 
 impl Evidence for WordGrid {
-    ghost meaning = { λ g. grid g.count g.rows };
+    ghost meaning = { λ g. grid g.baselines.count g.rows };
 
-    ghost sound = { λ g. record { few = g.few; alike = g.alike; apart = g.apart; within = g.within } };
+    ghost sound = { λ g. g.sound };
 
     fn count(&self) -> usize {
-        self.count
+        self.baselines.count
     }
 
     fn shares(&self, i: usize, j: usize) -> bool {
@@ -71,26 +70,16 @@ impl Ledger for WordGrid {
 
     fn clear(&mut self) {
         self.rows = [BaselineSet::empty(); 64];
-        self.count = 0;
+        self.baselines = Baselines { count: 0 };
         self.sharing = 0;
     }
 
     fn grow(&mut self) -> Result<usize, Refusal> {
-        let n = self.count;
-        if n >= 64 {
-            return Err(Refusal::Full);
-        }
-        self.count = n + 1;
-        Ok(n)
+        self.baselines.grow()
     }
 
     fn set(&mut self, i: usize, j: usize, on: bool) -> Result<bool, Refusal> {
-        if i >= self.count || j >= self.count {
-            return Err(Refusal::PastCount);
-        }
-        if i == j {
-            return Err(Refusal::SameBaseline);
-        }
+        ask_pair(self.baselines.count, i, j)?;
         if self.rows[i].has(j) == on {
             return Ok(false);
         }
