@@ -7,6 +7,7 @@ ghost use Rattle.survey.specs.Papers.{admits, admits_opening, admits_closing};
 ghost use Rattle.survey.specs.Views.{view, idle};
 
 use evidence::{Ledger, Refusal};
+use std::test::Fail;
 use survey::{Closing, Opening, Paper, Survey};
 
 /// Ends the open issue by its paper.
@@ -16,7 +17,7 @@ pub fn put_away<L: Ledger>(survey: &mut Survey<L>, paper: Paper)
 {
     match survey.withdraw(paper) {
         Ok(()) => {}
-        Err(_) => unreachable(),
+        Err(_) => unreachable!(),
     }
 }
 
@@ -56,77 +57,34 @@ pub fn profile<L: Ledger>(
     }
 }
 
-/// Writes the table. Where that is refused, the issue is withdrawn.
-pub fn table<L: Ledger>(
-    survey: &mut Survey<L>,
-    paper: Closing,
-    buffer: &mut [u8],
-    place: usize,
-) -> Result<usize, Refusal>
-    requires { admits_closing (view L.Evidence L.Ledger.own survey.old) paper ≡ true }
-{
-    match survey.table(paper, buffer, place) {
-        Ok(bytes) => Ok(bytes),
-        Err((closing, refusal)) => {
-            put_away(survey, Paper::Closes(closing));
-            Err(refusal)
-        }
-    }
-}
-
-/// A profile that is to be refused: its refusal, with the paper that is handed back. One that is written is withdrawn, and
-/// the error is its length.
+/// A profile that is to be refused: its refusal, with the paper that is handed back. One that is written is withdrawn.
 pub fn no_profile<L: Ledger>(
     survey: &mut Survey<L>,
     paper: Opening,
     buffer: &mut [u8],
     place: usize,
-) -> Result<(Opening, Refusal), usize>
+) -> Result<(Opening, Refusal), Fail>
     ensures { IfOk result (λ a. (a.0 ≡ paper) × (view L.Evidence L.Ledger.own survey.new ≡ view L.Evidence L.Ledger.own survey.old)) }
 {
     match survey.profile(paper, buffer, place) {
-        Ok((closing, bytes)) => {
+        Ok((closing, _)) => {
             put_away(survey, Paper::Closes(closing));
-            Err(bytes)
+            Err(Fail::new("a profile is written"))
         }
         Err(back) => Ok(back),
     }
 }
 
-/// A table that is to be refused: its refusal, with the paper that is handed back. The error is the length of one that is
-/// written.
-pub fn no_table<L: Ledger>(
-    survey: &mut Survey<L>,
-    paper: Closing,
-    buffer: &mut [u8],
-    place: usize,
-) -> Result<(Closing, Refusal), usize>
-    ensures { IfOk result (λ a. (a.0 ≡ paper) × (view L.Evidence L.Ledger.own survey.new ≡ view L.Evidence L.Ledger.own survey.old)) }
-{
-    match survey.table(paper, buffer, place) {
-        Ok(bytes) => Err(bytes),
-        Err(back) => Ok(back),
-    }
-}
-
-// The number of a refusal, or 0.
-fn number<T: Drop>(answer: Result<T, Refusal>) -> u8 {
-    match answer {
-        Ok(_) => 0,
-        Err(refusal) => refusal.number(),
-    }
-}
-
 /// The refusals of what an open issue does not admit: to enlist, share, part, resolve and begin.
-pub fn meanwhile<L: Ledger>(survey: &mut Survey<L>) -> [u8; 5]
+pub fn meanwhile<L: Ledger>(survey: &mut Survey<L>) -> [Option<Refusal>; 5]
     requires { idle (view L.Evidence L.Ledger.own survey.old).stage ≡ false }
     ensures { view L.Evidence L.Ledger.own survey.new ≡ view L.Evidence L.Ledger.own survey.old }
 {
     [
-        number(survey.enlist(700)),
-        number(survey.share(0, 1)),
-        number(survey.part(0, 1)),
-        number(survey.resolve()),
-        number(begin_and_withdraw(survey)),
+        survey.enlist(700).err(),
+        survey.share(0, 1).err(),
+        survey.part(0, 1).err(),
+        survey.resolve().err(),
+        begin_and_withdraw(survey).err(),
     ]
 }

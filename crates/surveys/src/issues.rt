@@ -33,8 +33,13 @@ fn whole_issue<L: Ledger>(
 ) -> Result<(usize, usize), Refusal> {
     let opening = begin(survey)?;
     let (closing, profile_bytes) = profile(survey, opening, buffer, place)?;
-    let table_bytes = table(survey, closing, buffer, place.saturating_add(profile_bytes))?;
-    Ok((profile_bytes, table_bytes))
+    match survey.table(closing, buffer, place.saturating_add(profile_bytes)) {
+        Ok(table_bytes) => Ok((profile_bytes, table_bytes)),
+        Err((closing, refusal)) => {
+            put_away(survey, Paper::Closes(closing));
+            Err(refusal)
+        }
+    }
 }
 
 // Every byte of the files, and of the buffer around them.
@@ -70,9 +75,15 @@ fn table_without_room<L: Ledger>(
 ) -> Result<[Refusal; 3], Fail> {
     let opening = begin(survey)?;
     let (closing, _) = profile(survey, opening, &mut [0; PROFILE_BYTES], 0)?;
-    let (closing, short) = no_table(survey, closing, buffer, 1)?;
-    let (closing, past) = no_table(survey, closing, buffer, buffer.len().saturating_add(1))?;
-    let (closing, last) = no_table(survey, closing, buffer, usize::MAX)?;
+    let Err((closing, short)) = survey.table(closing, buffer, 1) else {
+        return Err(Fail::new("a table is written"));
+    };
+    let Err((closing, past)) = survey.table(closing, buffer, buffer.len().saturating_add(1)) else {
+        return Err(Fail::new("a table is written past the end"));
+    };
+    let Err((closing, last)) = survey.table(closing, buffer, usize::MAX) else {
+        return Err(Fail::new("a table is written at the last place"));
+    };
     put_away(survey, Paper::Closes(closing));
     Ok([short, past, last])
 }
@@ -90,7 +101,9 @@ fn room<L: Ledger>(rt: &impl Abort, survey: &mut Survey<L>) -> Result<(), Fail> 
 }
 
 // The refusals of other calls while the opening paper of an issue is held, and while the closing one is.
-fn calls_meanwhile<L: Ledger>(survey: &mut Survey<L>) -> Result<[[u8; 5]; 2], Refusal> {
+fn calls_meanwhile<L: Ledger>(
+    survey: &mut Survey<L>,
+) -> Result<[[Option<Refusal>; 5]; 2], Refusal> {
     let opening = begin(survey)?;
     let begun = meanwhile(survey);
     let (closing, _) = profile(survey, opening, &mut [0; PROFILE_BYTES], 0)?;
@@ -102,7 +115,7 @@ fn calls_meanwhile<L: Ledger>(survey: &mut Survey<L>) -> Result<[[u8; 5]; 2], Re
 // An open issue closes the survey; a withdrawal ends it, and the next issue has the next number.
 fn withdrawals<L: Ledger>(rt: &impl Abort, survey: &mut Survey<L>) -> Result<(), Fail> {
     prepare(rt, survey)?;
-    assert!(rt; calls_meanwhile(survey)? == [[9; 5]; 2]);
+    assert!(rt; calls_meanwhile(survey)? == [[Some(Refusal::IssueOpen); 5]; 2]);
     assert_eq!(rt; begin_and_withdraw(survey), Ok(2));
     assert_eq!(rt; begin_and_withdraw(survey), Ok(3));
     assert_eq!(rt; survey.share(0, 1), Ok(false));

@@ -12,23 +12,21 @@ fn enlist_four<L: Ledger>(rt: &impl Abort, survey: &mut Survey<L>) {
     }
 }
 
-// How many imagers and doubtful baselines a resolve answers, or the refusal's number and detail.
-fn resolved<L: Ledger>(survey: &mut Survey<L>) -> Result<(usize, usize), (u8, usize)> {
-    match survey.resolve() {
-        Ok(found) => Ok((found.imagers, found.doubtful)),
-        Err(refusal) => Err((refusal.number(), refusal.detail())),
-    }
+// How many imagers and doubtful baselines a resolve answers.
+fn resolved<L: Ledger>(survey: &mut Survey<L>) -> Result<(usize, usize), Refusal> {
+    let found = survey.resolve()?;
+    Ok((found.imagers, found.doubtful))
 }
 
 // Two baselines that share, and two that share with none.
 fn one_pair<L: Ledger>(rt: &impl Abort, survey: &mut Survey<L>) {
     assert_eq!(rt; survey.share(1, 0), Ok(true));
     assert_eq!(rt; survey.ends(0), Err(Refusal::Unresolved));
-    assert!(rt; resolved(survey) == Ok((7, 0)));
-    assert!(rt; survey.ends(0) == Ok((0, 1)));
-    assert!(rt; survey.ends(1) == Ok((0, 2)));
-    assert!(rt; survey.common(1, 0) == Ok(Some(0)));
-    assert!(rt; survey.common(1, 2) == Ok(None));
+    assert_eq!(rt; resolved(survey), Ok((7, 0)));
+    assert_eq!(rt; survey.ends(0), Ok((0, 1)));
+    assert_eq!(rt; survey.ends(1), Ok((0, 2)));
+    assert_eq!(rt; survey.common(1, 0), Ok(Some(0)));
+    assert_eq!(rt; survey.common(1, 2), Ok(None));
     assert_eq!(rt; survey.share(0, 1), Ok(false));
     assert_eq!(rt; survey.doubtful(1), Ok(false));
     assert_eq!(rt; survey.doubtful(4), Err(Refusal::PastCount));
@@ -39,12 +37,12 @@ fn three_and_claw<L: Ledger>(rt: &impl Abort, survey: &mut Survey<L>) {
     assert_eq!(rt; survey.share(0, 2), Ok(true));
     assert_eq!(rt; survey.share(1, 2), Ok(true));
     assert_eq!(rt; survey.doubtful(1), Err(Refusal::Unresolved));
-    assert!(rt; resolved(survey) == Ok((6, 3)));
+    assert_eq!(rt; resolved(survey), Ok((6, 3)));
     assert_eq!(rt; survey.doubtful(1), Ok(true));
     assert_eq!(rt; survey.doubtful(3), Ok(false));
     assert_eq!(rt; survey.part(1, 2), Ok(true));
     assert_eq!(rt; survey.share(3, 0), Ok(true));
-    assert!(rt; resolved(survey) == Err((18, 0)));
+    assert_eq!(rt; resolved(survey), Err(Refusal::NoLayout(0)));
     assert_eq!(rt; survey.doubtful(1), Err(Refusal::Unresolved));
 }
 
@@ -63,48 +61,63 @@ fn fill<L: Ledger>(rt: &impl Abort, survey: &mut Survey<L>) {
     assert_eq!(rt; survey.enlist(500), Err(Refusal::Full));
 }
 
-// Shares the pairs of the first 33 baselines, 528 in all, in their order: how many were marked until one was refused, and why.
-fn share_many<L: Ledger>(survey: &mut Survey<L>) -> (usize, Option<Refusal>) {
+// A marking that was refused.
+#[derive(Clone, Copy, Debug, PartialEq)]
+struct Stopped {
+    // How many pairs were marked before.
+    marked: usize,
+    refusal: Refusal,
+}
+
+// Shares the pairs of the first 33 baselines, 528 in all, in their order, and answers how many were marked.
+fn share_many<L: Ledger>(survey: &mut Survey<L>) -> Result<usize, Stopped> {
     let mut marked = 0usize;
-    for i in 0..33usize {
+    for i in 0..33 {
         for j in 0..i {
-            match survey.share(i, j) {
-                Ok(_) => marked = marked.saturating_add(1),
-                Err(refusal) => return (marked, Some(refusal)),
-            }
+            survey
+                .share(i, j)
+                .map_err(|refusal| Stopped { marked, refusal })?;
+            marked = marked.saturating_add(1);
         }
     }
-    (marked, None)
+    Ok(marked)
+}
+
+fn marks<L: Ledger + Drop>(rt: &impl Abort, ledger: L) {
+    let mut survey = Survey::open(1, ledger);
+    enlist_four(rt, &mut survey);
+    refusals(rt, &mut survey);
+    one_pair(rt, &mut survey);
+    three_and_claw(rt, &mut survey);
+}
+
+// As many of the 528 pairs are marked in a full survey.
+fn full<L: Ledger + Drop>(rt: &impl Abort, ledger: L, marked: Result<usize, Stopped>) {
+    let mut survey = Survey::open(1, ledger);
+    fill(rt, &mut survey);
+    assert_eq!(rt; share_many(&mut survey), marked);
 }
 
 #[test]
 fn over_a_grid(rt: HostRuntime) {
-    let mut survey = Survey::open(1, WordGrid::new());
-    enlist_four(&rt, &mut survey);
-    refusals(&rt, &mut survey);
-    one_pair(&rt, &mut survey);
-    three_and_claw(&rt, &mut survey);
+    marks(&rt, WordGrid::new());
 }
 
 #[test]
 fn over_a_list(rt: HostRuntime) {
-    let mut survey = Survey::open(1, PairList::new());
-    enlist_four(&rt, &mut survey);
-    refusals(&rt, &mut survey);
-    one_pair(&rt, &mut survey);
-    three_and_claw(&rt, &mut survey);
+    marks(&rt, PairList::new());
 }
 
 #[test]
 fn full_over_a_grid(rt: HostRuntime) {
-    let mut survey = Survey::open(1, WordGrid::new());
-    fill(&rt, &mut survey);
-    assert_eq!(rt; share_many(&mut survey), (528, None));
+    full(&rt, WordGrid::new(), Ok(528));
 }
 
 #[test]
 fn full_over_a_list(rt: HostRuntime) {
-    let mut survey = Survey::open(1, PairList::new());
-    fill(&rt, &mut survey);
-    assert_eq!(rt; share_many(&mut survey), (512, Some(Refusal::ManyPairs)));
+    let stopped = Stopped {
+        marked: 512,
+        refusal: Refusal::ManyPairs,
+    };
+    full(&rt, PairList::new(), Err(stopped));
 }

@@ -20,16 +20,16 @@ fn shown<L: Ledger>(survey: &mut Survey<L>, paper: Paper) -> (Paper, [Refusal; 2
 {
     let (paper, file) = match paper {
         Paper::Opens(opening) => match survey.profile(opening, &mut [0; 90], 0) {
-            Ok(_) => unreachable(),
+            Ok(_) => unreachable!(),
             Err((opening, refusal)) => (Paper::Opens(opening), refusal),
         },
         Paper::Closes(closing) => match survey.table(closing, &mut [0; 90], 0) {
-            Ok(_) => unreachable(),
+            Ok(_) => unreachable!(),
             Err((closing, refusal)) => (Paper::Closes(closing), refusal),
         },
     };
     match survey.withdraw(paper) {
-        Ok(()) => unreachable(),
+        Ok(()) => unreachable!(),
         Err((paper, refusal)) => (paper, [file, refusal]),
     }
 }
@@ -117,12 +117,12 @@ fn exchanged<L: Ledger>(home: &mut Survey<L>, twin: &mut Survey<L>) -> Result<bo
 }
 
 // A paper is judged by its numbers and its type alone. Two surveys of number 1 and one of number 2.
-fn strangers<L: Ledger>(
-    rt: &impl Abort,
-    home: &mut Survey<L>,
-    twin: &mut Survey<L>,
-    other: &mut Survey<L>,
-) -> Result<(), Fail> {
+fn strangers<L: Ledger + Drop, F: Fn() -> L>(rt: &impl Abort, new: F) -> Result<(), Fail>
+    requires { F.IsAlwaysCallable new }
+{
+    let home = &mut Survey::open(1, new());
+    let twin = &mut Survey::open(1, new());
+    let other = &mut Survey::open(2, new());
     prepare(rt, home)?;
     prepare(rt, twin)?;
     prepare(rt, other)?;
@@ -139,20 +139,10 @@ fn strangers<L: Ledger>(
 
 #[test]
 fn strangers_over_a_grid(rt: HostRuntime) -> Result<(), Fail> {
-    strangers(
-        &rt,
-        &mut Survey::open(1, WordGrid::new()),
-        &mut Survey::open(1, WordGrid::new()),
-        &mut Survey::open(2, WordGrid::new()),
-    )
+    strangers(&rt, WordGrid::new)
 }
 
 #[test]
 fn strangers_over_a_list(rt: HostRuntime) -> Result<(), Fail> {
-    strangers(
-        &rt,
-        &mut Survey::open(1, PairList::new()),
-        &mut Survey::open(1, PairList::new()),
-        &mut Survey::open(2, PairList::new()),
-    )
+    strangers(&rt, PairList::new)
 }

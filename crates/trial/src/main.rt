@@ -2,65 +2,56 @@
 
 #![tactic(auto)]
 
+// What a trial is made of, and what it is held against.
 mod by_definition;
-mod families;
+mod ends;
 mod random;
-mod reading;
-mod rig;
+mod score;
+mod table;
+mod told;
+
+// The families of trials.
+mod families;
+mod odd;
 mod worked;
 
-use anyhow::anyhow;
-use evidence::Refusal;
-use families::Score;
+// The task.
+mod reading;
+mod rig;
+
+use families::{all_tables, damaged_tables, random_drawings};
+use odd::odd_cases;
+use score::Score;
 use std::io::Read;
 
 // Prints how many trials of a family came out right.
 fn print_score(rt: &HostRuntime, family: &str, score: Score) -> anyhow::Result<()> {
-    let right = score.right;
-    let trials = score.trials;
-    println!(rt; "{family}: {right} of {trials}")?;
+    println!(rt; "{family}: {score}")?;
     Ok(())
 }
 
-// A refusal where none is expected ends the program.
-fn unrefused<T>(answer: Result<T, Refusal>) -> anyhow::Result<T> {
-    match answer {
-        Ok(x) => Ok(x),
-        Err(_) => Err(anyhow!("a ledger refused")),
-    }
-}
-
 fn run_families(rt: &HostRuntime) -> anyhow::Result<()> {
-    print_score(rt, "worked rigs, five ways each", unrefused(worked::run())?)?;
-    print_score(rt, "odd cases", unrefused(families::odd_cases())?)?;
-    print_score(
-        rt,
-        "random drawings placed back",
-        families::random_drawings(7, 2000),
-    )?;
-    print_score(
-        rt,
-        "damaged tables by definition",
-        unrefused(families::damaged_tables(11, 2000))?,
-    )?;
-    print_score(
-        rt,
-        "all tables of four by definition",
-        unrefused(families::all_tables(4, 6))?,
-    )?;
-    print_score(
-        rt,
-        "all tables of five by definition",
-        unrefused(families::all_tables(5, 10))?,
-    )?;
+    let alloc = rt.alloc();
+    print_score(rt, "worked rigs, five ways each", worked::run(alloc)?)?;
+    print_score(rt, "odd cases", odd_cases()?)?;
+    let drawn_back = random_drawings(alloc, 7, 2000)?;
+    print_score(rt, "random drawings placed back", drawn_back)?;
+    let damaged = damaged_tables(alloc, 11, 2000)?;
+    print_score(rt, "damaged tables by definition", damaged)?;
+    let of_four = all_tables(alloc, 4)?;
+    print_score(rt, "all tables of four by definition", of_four)?;
+    let of_five = all_tables(alloc, 5)?;
+    print_score(rt, "all tables of five by definition", of_five)?;
     Ok(())
 }
 
 fn run(rt: &HostRuntime) -> anyhow::Result<()> {
-    let mut text = Vec::new(rt.alloc());
-    rt.stdin().read_to_end(&mut text)?;
-    let bytes = reading::drawing_of(rt, text.as_slice())?;
-    rig::print_rig(rt, bytes.as_slice())?;
+    let mut bytes = Vec::new(rt.alloc());
+    rt.stdin().read_to_end(&mut bytes)?;
+    // a line that is no text is no two numbers either
+    let text = String::from_utf8_lossy(rt.alloc(), bytes.as_slice())?;
+    let drawing = reading::drawing_of(rt, text.as_str())?;
+    rig::print_rig(rt, drawing.as_slice())?;
     run_families(rt)
 }
 

@@ -1,4 +1,7 @@
-//! A seeded generator of numbers, and random drawings and tables.
+//! A seeded generator of numbers, and random drawings.
+
+use super::ends::Ends;
+use std::alloc::{AllocError, Global};
 
 /// A generator: the same seed gives the same numbers.
 #[derive(Drop)]
@@ -26,32 +29,24 @@ impl Random {
         if bound == 0 {
             return 0;
         }
-        ((self.word() >> 33) % bound as u64) as u8
+        ((self.word() >> 33) % u64::from(bound)) as u8
     }
 }
 
-// Whether one of the first n entries has these two numbers, in either order.
-fn has_entry(drawing: &[u8; 128], n: usize, a: u8, b: u8) -> bool {
-    for i in 0..n.min(64) {
-        let (c, d) = (drawing[2 * i], drawing[2 * i + 1]);
-        if (a == c && b == d) || (a == d && b == c) {
-            return true;
+/// Draws at most `wanted` baselines between `imagers` imagers, no two alike.
+pub fn draw(
+    alloc: Global,
+    random: &mut Random,
+    wanted: usize,
+    imagers: u8,
+) -> Result<Vec<Ends>, AllocError> {
+    let mut drawing = Vec::new(alloc);
+    for _turn in 0..1000 {
+        let (a, b) = (random.below(imagers), random.below(imagers));
+        let drawn = drawing.contains(&(a, b)) || drawing.contains(&(b, a));
+        if drawing.len() < wanted && a != b && !drawn {
+            drawing.push((a, b))?;
         }
     }
-    false
-}
-
-/// Draws at most `wanted` baselines between `imagers` imagers, no two alike, and answers how many.
-pub fn draw(random: &mut Random, drawing: &mut [u8; 128], wanted: usize, imagers: u8) -> usize {
-    let mut n = 0usize;
-    for _turn in 0..1000usize {
-        let a = random.below(imagers);
-        let b = random.below(imagers);
-        if n < wanted && n < 64 && a != b && !has_entry(drawing, n, a, b) {
-            drawing[2 * n] = a;
-            drawing[2 * n + 1] = b;
-            n += 1;
-        }
-    }
-    n
+    Ok(drawing)
 }

@@ -1,20 +1,18 @@
 //! Prints a drawing's table of sharing and its layout.
 
+use super::ends::{Ends, bytes_of};
+use super::told::Told;
 use evidence::{Drawing, Evidence};
-use layout::place;
-use theory::Record;
+use theory::Entry;
 
-// Prints the row of baseline i, 1 where it shares and a point where it does not, and answers how many it shares with.
-fn print_row(rt: &HostRuntime, rig: &Drawing, i: usize) -> anyhow::Result<usize> {
-    let mut sharing = 0usize;
+// Prints the row of baseline i, 1 where it shares and a point where it does not.
+fn print_row(rt: &HostRuntime, rig: &Drawing, i: usize) -> anyhow::Result<()> {
     print!(rt; "{i:>2}:")?;
     for j in 0..rig.count() {
-        let shares = rig.shares(i, j);
-        rt.print(if shares { " 1" } else { " ." })?;
-        sharing = sharing.saturating_add(usize::from(shares));
+        rt.print(if rig.shares(i, j) { " 1" } else { " ." })?;
     }
     rt.println("")?;
-    Ok(sharing)
+    Ok(())
 }
 
 // Prints the table of sharing.
@@ -26,48 +24,52 @@ fn print_table(rt: &HostRuntime, rig: &Drawing) -> anyhow::Result<()> {
         "a drawing that is not proper"
     };
     println!(rt; "{count} baselines, {kind}")?;
-    let mut sharing = 0usize;
+    let mut pairs = 0usize;
     for i in 0..count {
-        sharing = sharing.saturating_add(print_row(rt, rig, i)?);
+        print_row(rt, rig, i)?;
+        pairs = pairs.saturating_add((0..i).filter(|j| rig.shares(i, *j)).count());
     }
-    let pairs = sharing / 2;
     println!(rt; "{pairs} pairs share an imager")?;
     Ok(())
 }
 
-// Prints the imagers and the standing of each of the first baselines of a record.
-fn print_entries(rt: &HostRuntime, record: &Record, count: usize) -> anyhow::Result<()> {
-    for i in 0..count.min(64) {
-        let entry = record.entries[i];
-        let lower = entry.lower;
-        let higher = entry.higher;
+// Prints the imagers and the standing of each baseline.
+fn print_entries(rt: &HostRuntime, entries: &[Entry]) -> anyhow::Result<()> {
+    for (i, entry) in entries.iter().enumerate() {
         let standing = if entry.doubtful {
             "doubtful"
         } else {
             "certain"
         };
-        println!(rt; "{i:>2}: imagers {lower} and {higher}, {standing}")?;
+        println!(rt;
+            "{i:>2}: imagers {} and {}, {standing}",
+            entry.lower, entry.higher
+        )?;
     }
     Ok(())
 }
 
-/// Prints the table of a drawing's bytes, and its layout or why there is none.
-pub fn print_rig(rt: &HostRuntime, bytes: &[u8]) -> anyhow::Result<()> {
-    if bytes.len() > 128 {
+/// Prints a drawing's table, and its layout or why there is none.
+pub fn print_rig(rt: &HostRuntime, drawing: &[Ends]) -> anyhow::Result<()> {
+    if drawing.len() > 64 {
         rt.println("baselines past the 64th are not read")?;
     }
-    let rig = Drawing { bytes };
+    let bytes = bytes_of(rt.alloc(), drawing)?;
+    let rig = Drawing {
+        bytes: bytes.as_slice(),
+    };
     print_table(rt, &rig)?;
-    let mut record = Record::new();
-    match place(&rig, &mut record) {
-        Ok(imagers) => {
-            println!(rt; "{imagers} imagers")?;
-            print_entries(rt, &record, rig.count())
+    match Told::of(&rig) {
+        Ok(told) => {
+            println!(rt; "{} imagers", told.imagers)?;
+            print_entries(rt, told.entries())
         }
         Err(refusal) => {
-            let number = refusal.number();
-            let detail = refusal.detail();
-            println!(rt; "refused: {number}, detail {detail}")?;
+            println!(rt;
+                "refused: {}, detail {}",
+                refusal.number(),
+                refusal.detail()
+            )?;
             Ok(())
         }
     }

@@ -1,252 +1,105 @@
 //! The worked rigs, each placed through every kind of evidence.
 
-use super::by_definition::is_layout;
-use super::families::Score;
-use evidence::{Beside, Drawing, Evidence, Ledger, Refusal, Square};
-use layout::place;
+use super::ends::{Ends, bytes_of};
+use super::score::Score;
+use super::table::fill;
+use super::told::{Told, ends_of};
+use evidence::{Beside, Drawing, Evidence, Refusal, Square};
+use itertools::Itertools;
 use ledgers::{PairList, WordGrid};
-use theory::Record;
+use worked_rigs::{Laid, RIGS, Rig};
+use std::alloc::{AllocError, Global};
 
-/// A rig with its sharing pairs and its outcome: the ends of each baseline, or the lowest baseline whose cluster has no layout.
-#[derive(Clone, Copy)]
-pub struct Rig {
-    pub count: usize,
-    pub sharing: &'static [(usize, usize)],
-    pub ends: &'static [(u8, u8)],
-    pub imagers: usize,
-    pub doubtful: bool,
-    pub clash: Option<usize>,
-}
-
-pub const RIGS: [Rig; 9] = [
-    Rig {
-        count: 0,
-        sharing: &[],
-        ends: &[],
-        imagers: 0,
-        doubtful: false,
-        clash: None,
-    },
-    Rig {
-        count: 1,
-        sharing: &[],
-        ends: &[(0, 1)],
-        imagers: 2,
-        doubtful: false,
-        clash: None,
-    },
-    Rig {
-        count: 3,
-        sharing: &[(0, 1), (0, 2), (1, 2)],
-        ends: &[(0, 1), (0, 2), (0, 3)],
-        imagers: 4,
-        doubtful: true,
-        clash: None,
-    },
-    Rig {
-        count: 3,
-        sharing: &[(0, 1), (1, 2)],
-        ends: &[(0, 1), (0, 2), (2, 3)],
-        imagers: 4,
-        doubtful: false,
-        clash: None,
-    },
-    Rig {
-        count: 4,
-        sharing: &[(0, 1), (0, 2), (0, 3)],
-        ends: &[],
-        imagers: 0,
-        doubtful: false,
-        clash: Some(0),
-    },
-    Rig {
-        count: 4,
-        sharing: &[(0, 1), (0, 2), (0, 3), (1, 2), (1, 3)],
-        ends: &[(0, 1), (0, 2), (0, 3), (1, 2)],
-        imagers: 4,
-        doubtful: true,
-        clash: None,
-    },
-    Rig {
-        count: 5,
-        sharing: &[
-            (0, 1),
-            (0, 2),
-            (0, 3),
-            (0, 4),
-            (1, 2),
-            (1, 3),
-            (1, 4),
-            (2, 3),
-            (2, 4),
-        ],
-        ends: &[],
-        imagers: 0,
-        doubtful: false,
-        clash: Some(0),
-    },
-    Rig {
-        count: 5,
-        sharing: &[(1, 2), (1, 3), (1, 4)],
-        ends: &[],
-        imagers: 0,
-        doubtful: false,
-        clash: Some(1),
-    },
-    Rig {
-        count: 5,
-        sharing: &[
-            (0, 1),
-            (0, 2),
-            (0, 3),
-            (0, 4),
-            (1, 2),
-            (2, 3),
-            (3, 4),
-            (1, 4),
-        ],
-        ends: &[(0, 1), (0, 2), (0, 3), (1, 3), (1, 2)],
-        imagers: 4,
-        doubtful: true,
-        clash: None,
-    },
-];
-
-// Whether the record tells the ends of the rig from a baseline on, its imagers numbered from another on.
-fn tells(record: &Record, rig: &Rig, from: usize, imagers: u8) -> bool {
-    for (i, ends) in rig.ends.iter().enumerate() {
-        let at = from.saturating_add(i);
-        if at >= 64 {
-            return false;
+// Whether placing the evidence comes to this outcome.
+fn outcome_is<E: Evidence>(evidence: &E, outcome: Result<Laid, Refusal>) -> bool {
+    match (Told::of(evidence), outcome) {
+        (Ok(told), Ok(laid)) => {
+            told.imagers == usize::from(laid.imagers)
+                && told
+                    .entries()
+                    .iter()
+                    .map(ends_of)
+                    .eq(laid.ends.iter().copied())
+                && told
+                    .entries()
+                    .iter()
+                    .all(|entry| entry.doubtful == laid.doubtful)
+                && told.is_layout_of(evidence)
         }
-        let entry = record.entries[at];
-        let right = entry.lower as u16 == ends.0 as u16 + imagers as u16
-            && entry.higher as u16 == ends.1 as u16 + imagers as u16;
-        if !right || entry.doubtful != rig.doubtful {
-            return false;
-        }
-    }
-    true
-}
-
-// Whether placing the evidence has the outcome of the rig.
-fn outcome_is<E: Evidence>(evidence: &E, rig: &Rig) -> bool {
-    let mut record = Record::new();
-    match place(evidence, &mut record) {
-        Ok(imagers) => rig.clash.is_none()
-            && imagers == rig.imagers
-            && tells(&record, rig, 0, 0)
-            && is_layout(evidence, &record),
-        Err(refusal) => match rig.clash {
-            Some(baseline) => refusal == Refusal::NoLayout(baseline),
-            None => false,
-        },
+        (Err(refusal), Err(expected)) => refusal == expected,
+        _ => false,
     }
 }
 
-/// Makes a ledger of the rig.
-pub fn fill<L: Ledger>(ledger: &mut L, rig: &Rig) -> Result<(), Refusal> {
-    ledger.clear();
-    for _i in 0..rig.count {
-        ledger.grow()?;
-    }
-    for pair in rig.sharing {
-        ledger.set(pair.0, pair.1, true)?;
-    }
-    Ok(())
+// Whether two baselines of a rig share.
+fn shares(rig: &Rig, i: usize, j: usize) -> bool {
+    rig.sharing.contains(&(i.min(j), i.max(j)))
 }
 
-// Marks a place of a square with five rows at most.
-fn mark(bytes: &mut [u8; 25], count: usize, row: usize, column: usize) {
-    let place = row.saturating_mul(count).saturating_add(column);
-    if place < 25 {
-        bytes[place] = 1;
-    }
+// The bytes of the square of a rig.
+fn square_of(alloc: Global, rig: &Rig) -> Result<Vec<u8>, AllocError> {
+    (0..rig.count)
+        .cartesian_product(0..rig.count)
+        .map(|(i, j)| u8::from(shares(rig, i, j)))
+        .collect(alloc)
 }
 
-// The square of a rig of at most five baselines.
-fn square_of(rig: &Rig) -> [u8; 25] {
-    let mut bytes = [0u8; 25];
-    for pair in rig.sharing {
-        mark(&mut bytes, rig.count, pair.0, pair.1);
-        mark(&mut bytes, rig.count, pair.1, pair.0);
-    }
-    bytes
-}
-
-// The drawing of the outcome, two bytes to a baseline.
-fn drawing_of(rig: &Rig) -> [u8; 10] {
-    let mut bytes = [0u8; 10];
-    for (i, ends) in rig.ends.iter().enumerate() {
-        if i < 5 {
-            bytes[2 * i] = ends.0;
-            bytes[2 * i + 1] = ends.1;
-        }
-    }
-    bytes
+// Whether the drawing of a rig's layout has its outcome. A rig with no layout has no drawing.
+fn drawing_right(alloc: Global, rig: &Rig) -> Result<bool, AllocError> {
+    let Ok(laid) = rig.outcome else {
+        return Ok(true);
+    };
+    let bytes = bytes_of(alloc, laid.ends)?;
+    let drawing = Drawing {
+        bytes: bytes.as_slice(),
+    };
+    Ok(outcome_is(&drawing, rig.outcome))
 }
 
 // Whether two copies of the rig beside each other are placed as each is, the second's imagers after the first's.
-fn beside_is<E: Evidence, F: Evidence>(two: &Beside<E, F>, rig: &Rig) -> bool {
-    let mut record = Record::new();
-    match place(two, &mut record) {
-        Ok(imagers) => {
-            rig.clash.is_none()
-                && imagers == rig.imagers.saturating_mul(2)
-                && tells(&record, rig, 0, 0)
-                && tells(&record, rig, rig.count, (rig.imagers & 0xff) as u8)
-        }
-        Err(refusal) => match rig.clash {
-            Some(baseline) => refusal == Refusal::NoLayout(baseline),
-            None => false,
-        },
-    }
+fn copies_right<E: Evidence>(alloc: Global, two: &E, rig: &Rig) -> Result<bool, AllocError> {
+    let Ok(laid) = rig.outcome else {
+        return Ok(outcome_is(two, rig.outcome));
+    };
+    let after = |imager: u8| imager.saturating_add(laid.imagers);
+    let second = laid.ends.iter().map(|ends| (after(ends.0), after(ends.1)));
+    let ends: Vec<Ends> = laid.ends.iter().copied().chain(second).collect(alloc)?;
+    let both = Laid {
+        imagers: after(laid.imagers),
+        ends: ends.as_slice(),
+        doubtful: laid.doubtful,
+    };
+    Ok(outcome_is(two, Ok(both)))
 }
 
-// How many of the five ways of placing one rig have its outcome.
-fn ways_right(rig: &Rig) -> Result<usize, Refusal> {
+// One rig placed in five ways.
+fn note_ways(alloc: Global, rig: &Rig, score: &mut Score) -> anyhow::Result<()> {
     let mut grid = WordGrid::new();
-    fill(&mut grid, rig)?;
+    fill(&mut grid, rig.count, |i, j| shares(rig, i, j))?;
     let mut list = PairList::new();
-    fill(&mut list, rig)?;
-    let bytes = square_of(rig);
-    let area = rig.count.saturating_mul(rig.count).min(25);
+    fill(&mut list, rig.count, |i, j| shares(rig, i, j))?;
+    let bytes = square_of(alloc, rig)?;
     let square = Square {
         n: rig.count as u64,
-        bytes: &bytes[0..area],
+        bytes: bytes.as_slice(),
     };
-    let drawn = drawing_of(rig);
-    let ends = rig.ends.len().saturating_mul(2).min(10);
-    let mut right = usize::from(outcome_is(&grid, rig))
-        + usize::from(outcome_is(&list, rig))
-        + usize::from(outcome_is(&square, rig));
-    right += usize::from(
-        rig.clash.is_some()
-            || outcome_is(
-                &Drawing {
-                    bytes: &drawn[0..ends],
-                },
-                rig,
-            ),
-    );
-    right += usize::from(beside_is(
-        &Beside {
-            first: grid,
-            second: list,
-        },
-        rig,
-    ));
-    Ok(right)
+    score.note(outcome_is(&grid, rig.outcome));
+    score.note(outcome_is(&list, rig.outcome));
+    score.note(outcome_is(&square, rig.outcome));
+    score.note(drawing_right(alloc, rig)?);
+    let two = Beside {
+        first: grid,
+        second: list,
+    };
+    score.note(copies_right(alloc, &two, rig)?);
+    Ok(())
 }
 
 /// The worked rigs, each placed in five ways.
-pub fn run() -> Result<Score, Refusal> {
-    let mut right = 0usize;
+pub fn run(alloc: Global) -> anyhow::Result<Score> {
+    let mut score = Score::default();
     for rig in &RIGS {
-        right = right.saturating_add(ways_right(rig)?);
+        note_ways(alloc, rig, &mut score)?;
     }
-    Ok(Score {
-        right,
-        trials: 5 * RIGS.len(),
-    })
+    Ok(score)
 }

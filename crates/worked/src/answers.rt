@@ -24,7 +24,7 @@ pub struct Tellings {
 }
 
 /// How many bytes the two files have.
-#[derive(Clone, Copy)]
+#[derive(Clone, Copy, PartialEq, Eq, Debug)]
 pub struct Lengths {
     pub profile: usize,
     pub table: usize,

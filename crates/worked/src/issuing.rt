@@ -37,8 +37,7 @@ fn withdraw<L: Ledger>(survey: &mut Survey<L>, paper: Paper)
 {
     match survey.withdraw(paper) {
         Ok(()) => {}
-        // No way leads here: by the law only a wrong paper is handed back.
-        Err((Paper::Opens(_opening), _)) => {}
-        Err((Paper::Closes(_closing), _)) => {}
+        // by the law only a wrong paper is handed back
+        Err(_) => unreachable!(),
     }
 }
