@@ -7,8 +7,8 @@ use super::told::{Told, ends_of};
 use evidence::{Beside, Drawing, Evidence, Refusal, Square};
 use itertools::Itertools;
 use ledgers::{PairList, WordGrid};
-use worked_rigs::{Laid, RIGS, Rig};
 use std::alloc::{AllocError, Global};
+use worked_rigs::{Laid, RIGS, Rig};
 
 // Whether placing the evidence comes to this outcome.
 fn outcome_is<E: Evidence>(evidence: &E, outcome: Result<Laid, Refusal>) -> bool {
