@@ -5,9 +5,9 @@ use ledgers::{PairList, WordGrid};
 use std::process::Abort;
 use survey::Survey;
 
-// Enlists four baselines.
-fn enlist_four<L: Ledger>(rt: &impl Abort, survey: &mut Survey<L>) {
-    for i in 0..4usize {
+/// Enlists so many baselines in a survey that has none.
+pub fn enlist<L: Ledger>(rt: &impl Abort, survey: &mut Survey<L>, count: usize) {
+    for i in 0..count {
         assert_eq!(rt; survey.enlist(500), Ok(i));
     }
 }
@@ -53,14 +53,6 @@ fn refusals<L: Ledger>(rt: &impl Abort, survey: &mut Survey<L>) {
     assert_eq!(rt; survey.part(3, 3), Err(Refusal::SameBaseline));
 }
 
-// The 64th baseline is number 63, and there is no 65th.
-fn fill<L: Ledger>(rt: &impl Abort, survey: &mut Survey<L>) {
-    for i in 0..64usize {
-        assert_eq!(rt; survey.enlist(500), Ok(i));
-    }
-    assert_eq!(rt; survey.enlist(500), Err(Refusal::Full));
-}
-
 // A marking that was refused.
 #[derive(Clone, Copy, Debug, PartialEq)]
 struct Stopped {
@@ -85,16 +77,17 @@ fn share_many<L: Ledger>(survey: &mut Survey<L>) -> Result<usize, Stopped> {
 
 fn marks<L: Ledger + Drop>(rt: &impl Abort, ledger: L) {
     let mut survey = Survey::open(1, ledger);
-    enlist_four(rt, &mut survey);
+    enlist(rt, &mut survey, 4);
     refusals(rt, &mut survey);
     one_pair(rt, &mut survey);
     three_and_claw(rt, &mut survey);
 }
 
-// As many of the 528 pairs are marked in a full survey.
+// The 64th baseline is number 63, and there is no 65th; so many of the 528 pairs are marked.
 fn full<L: Ledger + Drop>(rt: &impl Abort, ledger: L, marked: Result<usize, Stopped>) {
     let mut survey = Survey::open(1, ledger);
-    fill(rt, &mut survey);
+    enlist(rt, &mut survey, 64);
+    assert_eq!(rt; survey.enlist(500), Err(Refusal::Full));
     assert_eq!(rt; share_many(&mut survey), marked);
 }
 

@@ -1,5 +1,6 @@
 //! The worked rigs, each marked and resolved in a survey over both ledgers.
 
+use super::marks::enlist;
 use evidence::{Ledger, Refusal};
 use ledgers::{PairList, WordGrid};
 use std::process::Abort;
@@ -9,9 +10,7 @@ use worked_rigs::{Laid, RIGS, Rig};
 
 // Enlists and marks a rig.
 fn mark<L: Ledger>(rt: &impl Abort, survey: &mut Survey<L>, rig: &Rig) {
-    for i in 0..rig.count {
-        assert_eq!(rt; survey.enlist(500), Ok(i));
-    }
+    enlist(rt, survey, rig.count);
     for (i, j) in rig.sharing {
         assert_eq!(rt; survey.share(*i, *j), Ok(true));
     }
