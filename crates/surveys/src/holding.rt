@@ -15,17 +15,7 @@ pub fn put_away<L: Ledger>(survey: &mut Survey<L>, paper: Paper)
     requires { admits (view L.Evidence L.Ledger.own survey.old) paper ≡ true }
     ensures { view L.Evidence L.Ledger.own survey.new ≡ at_stage (view L.Evidence L.Ledger.own survey.old) Idle }
 {
-    match survey.withdraw(paper) {
-        Ok(()) => {}
-        Err(_) => unreachable!(),
-    }
-}
-
-/// Begins an issue.
-pub fn begin<L: Ledger>(survey: &mut Survey<L>) -> Result<Opening, Refusal>
-    ensures { IfOk result (λ p. admits_opening (view L.Evidence L.Ledger.own survey.new) p ≡ true) }
-{
-    survey.begin()
+    survey.withdraw(paper).unwrap();
 }
 
 /// Begins an issue, withdraws it and answers its number. While an issue is open, the survey stays the same.

@@ -31,7 +31,7 @@ fn whole_issue<L: Ledger>(
     buffer: &mut [u8],
     place: usize,
 ) -> Result<(usize, usize), Refusal> {
-    let opening = begin(survey)?;
+    let opening = survey.begin()?;
     let (closing, profile_bytes) = profile(survey, opening, buffer, place)?;
     match survey.table(closing, buffer, place.saturating_add(profile_bytes)) {
         Ok(table_bytes) => Ok((profile_bytes, table_bytes)),
@@ -60,7 +60,7 @@ fn profile_without_room<L: Ledger>(
     survey: &mut Survey<L>,
     buffer: &mut [u8],
 ) -> Result<[Refusal; 3], Fail> {
-    let opening = begin(survey)?;
+    let opening = survey.begin()?;
     let (opening, short) = no_profile(survey, opening, buffer, 1)?;
     let (opening, past) = no_profile(survey, opening, buffer, buffer.len().saturating_add(1))?;
     let (opening, last) = no_profile(survey, opening, buffer, usize::MAX)?;
@@ -73,7 +73,7 @@ fn table_without_room<L: Ledger>(
     survey: &mut Survey<L>,
     buffer: &mut [u8],
 ) -> Result<[Refusal; 3], Fail> {
-    let opening = begin(survey)?;
+    let opening = survey.begin()?;
     let (closing, _) = profile(survey, opening, &mut [0; PROFILE_BYTES], 0)?;
     let Err((closing, short)) = survey.table(closing, buffer, 1) else {
         return Err(Fail::new("a table is written"));
@@ -104,7 +104,7 @@ fn room<L: Ledger>(rt: &impl Abort, survey: &mut Survey<L>) -> Result<(), Fail> 
 fn calls_meanwhile<L: Ledger>(
     survey: &mut Survey<L>,
 ) -> Result<[[Option<Refusal>; 5]; 2], Refusal> {
-    let opening = begin(survey)?;
+    let opening = survey.begin()?;
     let begun = meanwhile(survey);
     let (closing, _) = profile(survey, opening, &mut [0; PROFILE_BYTES], 0)?;
     let profiled = meanwhile(survey);

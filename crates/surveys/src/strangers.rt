@@ -42,8 +42,8 @@ fn begin_both<L: Ledger>(
     ensures own { IfOk result (λ a. admits_opening (view L.Evidence L.Ledger.own home.new) a.0 ≡ true) }
     ensures foreign { IfOk result (λ a. admits_opening (view L.Evidence L.Ledger.own other.new) a.1 ≡ true) }
 {
-    let own = begin(home)?;
-    match begin(other) {
+    let own = home.begin()?;
+    match other.begin() {
         Ok(foreign) => Ok((own, foreign)),
         Err(refusal) => {
             put_away(home, Paper::Opens(own));
