@@ -4,7 +4,7 @@ use super::by_definition::confirms;
 use super::ends::{Ends, bytes_of, has_trio};
 use super::random::{Random, draw};
 use super::score::Score;
-use super::table::{fill, unrefused};
+use super::table::fill;
 use super::told::{Told, ends_of};
 use evidence::{Drawing, Evidence, Ledger};
 use itertools::Itertools;
@@ -72,7 +72,7 @@ fn damage(alloc: Global, random: &mut Random, grid: &mut WordGrid) -> anyhow::Re
     let (i, j) = (usize::from(random.below(6)), usize::from(random.below(6)));
     if i < count && j < count && i != j {
         let shared = grid.shares(i, j);
-        unrefused(grid.set(i, j, !shared))?;
+        grid.set(i, j, !shared)?;
     }
     Ok(())
 }

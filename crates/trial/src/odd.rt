@@ -1,7 +1,7 @@
 //! Odd cases, each with what is known to come of it.
 
 use super::score::Score;
-use super::table::{fill, unrefused};
+use super::table::fill;
 use super::told::Told;
 use evidence::{Drawing, Evidence, Ledger, Refusal};
 use ledgers::WordGrid;
@@ -50,7 +50,7 @@ fn drawings(score: &mut Score) {
 }
 
 // 64 lone baselines, 64 that all share, and a path of 64 with and without a pair too many.
-fn full_tables(score: &mut Score) -> anyhow::Result<()> {
+fn full_tables(score: &mut Score) -> Result<(), Refusal> {
     let mut grid = WordGrid::new();
     fill(&mut grid, 64, |_, _| false)?;
     score.note(layout_of(&grid) == Some((128, 0)));
@@ -58,13 +58,13 @@ fn full_tables(score: &mut Score) -> anyhow::Result<()> {
     score.note(layout_of(&grid) == Some((65, 0)));
     fill(&mut grid, 64, |i, j| i.abs_diff(j) == 1)?;
     score.note(layout_of(&grid) == Some((65, 0)));
-    unrefused(grid.set(63, 10, true))?;
+    grid.set(63, 10, true)?;
     score.note(clashes_at(&grid, 0));
     Ok(())
 }
 
 /// Odd drawings, and odd tables of 64 baselines.
-pub fn odd_cases() -> anyhow::Result<Score> {
+pub fn odd_cases() -> Result<Score, Refusal> {
     let mut score = Score::default();
     drawings(&mut score);
     full_tables(&mut score)?;

@@ -65,11 +65,7 @@ pub fn print_rig(rt: &HostRuntime, drawing: &[Ends]) -> anyhow::Result<()> {
             print_entries(rt, told.entries())
         }
         Err(refusal) => {
-            println!(rt;
-                "refused: {}, detail {}",
-                refusal.number(),
-                refusal.detail()
-            )?;
+            println!(rt; "refused: {refusal}")?;
             Ok(())
         }
     }
