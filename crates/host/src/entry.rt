@@ -5,7 +5,7 @@ ghost use Rattle.evidence.specs.declared.refusal.Refusal.{Refusal as Reason};
 ghost use Rattle.host.specs.Entered.{Entered, packed};
 
 use super::output::write_entries;
-use super::square_form::wrong_place;
+use super::square_form::FullSquare;
 use evidence::{Refusal, Square};
 use layout::place;
 use theory::Record;
@@ -18,22 +18,16 @@ pub fn place_square(n: u64, square: &[u8], out: &mut [u8]) -> Result<usize, Refu
     ensures entered { Entered n square.now out.old out.new result }
     ensures small { packed result < 2 ^ 32 }
 {
-    if n > 64 {
-        return Err(Refusal::ManyBaselines);
-    }
-    let side = n as usize;
-    if square.len() != side * side {
-        return Err(Refusal::SquareSize);
-    }
-    if let Some(at) = wrong_place(side, square) {
+    let full = FullSquare::of(n, square)?;
+    if let Some(at) = full.first_wrong() {
         return Err(Refusal::SquareByte(at));
     }
     let mut told = Record::new();
     let imagers = place(&Square { n, bytes: square }, &mut told)?;
-    if out.len() < 3 * side {
-        return Err(Refusal::NoRoom(3 * side));
+    if out.len() < 3 * full.n {
+        return Err(Refusal::NoRoom(3 * full.n));
     }
-    write_entries(out, &told, side);
+    write_entries(out, &told, full.n);
     Ok(imagers)
 }
 
@@ -44,6 +38,6 @@ pub extern "C" fn tuvelanni_place_square(n: u64, square: &[u8], out: &mut [u8]) 
 {
     match place_square(n, square, out) {
         Ok(imagers) => 256 * imagers as u64,
-        Err(refusal) => refusal.number() as u64 + 256 * refusal.detail() as u64,
+        Err(refusal) => u64::from(refusal.number()) + 256 * refusal.detail() as u64,
     }
 }
