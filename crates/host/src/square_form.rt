@@ -1,6 +1,6 @@
 //! The form of a square: its size, and what its bytes may be.
 
-ghost use Rattle.std.specs.Prelude.{◌≡◌, ◌*◌, ◌/◌, ◌%◌, ◌<◌, ◌≤◌, Some, length, MatchResult};
+ghost use Rattle.std.specs.Prelude.{◌≡◌, ◌*◌, ◌<◌, ◌≤◌, Some, length, MatchResult};
 ghost use Rattle.host.specs.Square.{right_at, wrong_column, wrong_row, first_wrong, form_refusal};
 
 use evidence::Refusal;
