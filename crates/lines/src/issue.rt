@@ -1,26 +1,23 @@
 //! A whole issue in one reply.
 
-ghost use Rattle.std.specs.Prelude.{◌<◌, ◌≤◌, length, IfErr};
-ghost use Rattle.evidence.specs.Refusals.{detail_of};
 ghost use Rattle.lines.specs.Served.{Served};
 
+use super::reply::REPLY;
 use super::request::Request;
 use evidence::{Ledger, Refusal};
 use survey::Survey;
 
 // Begins an issue, writes its profile and its table into the reply, one after the other, and so ends it. The papers are those of
 // the issue, and there is room for both files, so nothing is refused but the begin.
-pub fn issue<L: Ledger>(survey: &mut Survey<L>, reply: &mut [u8]) -> Result<usize, Refusal>
-    requires { 4096 ≤ length reply.old }
-    ensures served { Served L.Evidence L.Ledger.own survey.old Request.Issue reply.old reply.new result survey.new }
-    ensures small { IfErr result (λ e. detail_of e < 65536) }
+pub fn issue<L: Ledger>(survey: &mut Survey<L>, reply: &mut [u8; REPLY]) -> Result<usize, Refusal>
+    ensures { Served L.Evidence L.Ledger.own survey.old Request.Issue reply.old reply.new result survey.new }
 {
     let opening = survey.begin()?;
     let Ok((closing, profile)) = survey.profile(opening, reply, 0) else {
-        unreachable();
+        unreachable!();
     };
     let Ok(table) = survey.table(closing, reply, profile) else {
-        unreachable();
+        unreachable!();
     };
     Ok(profile + table)
 }

@@ -12,11 +12,8 @@ mod word;
 // What is replied, in bytes.
 mod reply;
 
-// The calls that a request makes.
-mod calls;
+// A line, the calls that it makes, and the lines of a sheet.
 mod issue;
-
-// A line, and the lines of a sheet.
 mod serve;
 mod sheet;
 

@@ -1,8 +1,9 @@
 //! What a line asks for.
 
-ghost use Rattle.std.specs.Prelude.{◌≡◌, ◌+◌, [], length, MatchOption, slice_index_or};
+ghost use Rattle.std.specs.Prelude.{◌≡◌, ◌+◌, [], length, MatchResult, slice_index_or};
 ghost use Rattle.files.specs.Reading.{fields};
 ghost use Rattle.lines.specs.Words.{NoWord, word_text, numbers_after};
+ghost use Rattle.lines.specs.declared.fault.TextFault.TheVariants.{UnknownWord};
 ghost use Rattle.lines.specs.Requests.{Reads, SpanRead};
 
 use super::fault::TextFault;
@@ -33,9 +34,7 @@ pub fn read_request(bytes: &[u8]) -> Result<Request, TextFault>
     let Some(text) = without_end(bytes) else {
         return Err(TextFault::NoEnd);
     };
-    let Some(word) = first_word(text) else {
-        return Err(TextFault::UnknownWord);
-    };
+    let word = first_word(text)?;
     if field_count(text) != 1 + word.numbers() {
         return Err(TextFault::FieldCount);
     }
@@ -55,10 +54,11 @@ pub fn read_request(bytes: &[u8]) -> Result<Request, TextFault>
 }
 
 // The word that a line begins with.
-fn first_word(text: &[u8]) -> Option<Word>
-    ensures { MatchOption result (NoWord (slice_index_or (fields text.now) 0 [])) (λ w. slice_index_or (fields text.now) 0 [] ≡ word_text w) }
+fn first_word(text: &[u8]) -> Result<Word, TextFault>
+    ensures { MatchResult result (λ w. slice_index_or (fields text.now) 0 [] ≡ word_text w) (λ fault. (fault ≡ UnknownWord) × NoWord (slice_index_or (fields text.now) 0 [])) }
 {
-    Word::of(Fields::of(text).next()?)
+    let first = Fields::of(text).next().unwrap_or_default();
+    Word::try_from(first)
 }
 
 // The span of a line `enlist,span`.

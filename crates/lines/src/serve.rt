@@ -1,16 +1,14 @@
 //! A line, and the reply to it.
 
-ghost use Rattle.std.specs.Prelude.{◌<◌, ◌≤◌, length, IfOk, IfErr};
-ghost use Rattle.evidence.specs.Refusals.{detail_of as refusal-detail};
-ghost use Rattle.lines.specs.Faults.{detail_of};
+ghost use Rattle.std.specs.Prelude.{◌<◌, ◌≤◌, length, IfOk};
 ghost use Rattle.lines.specs.Served.{Served, Answered, Lined};
 
-use super::calls::{enlist, part, resolve, share};
 use super::fault::{Fault, TextFault};
 use super::issue::issue;
-use super::reply::{REPLY, put_no};
+use super::reply::{REPLY, put_no, put_ok};
 use super::request::{Request, read_request};
 use evidence::{Ledger, Refusal};
+use files::Field;
 use survey::Survey;
 
 /// Answers a line, its last byte 10 with it, by calls on a survey: writes the reply from the buffer's start and answers its
@@ -26,9 +24,9 @@ pub fn line<L: Ledger>(
     ensures replied { Lined L.Evidence L.Ledger.own survey.old bytes.now number reply.old reply.new result survey.new }
     ensures within { IfOk result (λ n. n ≤ length reply.old) }
 {
-    if reply.len() < REPLY {
+    let Some(reply) = reply.first_chunk_mut::<REPLY>() else {
         return Err(Fault::Text(TextFault::ShortReply));
-    }
+    };
     match answer(survey, bytes, reply) {
         Ok(length) => Ok(length),
         Err(fault) => Ok(put_no(reply, number, fault)),
@@ -36,30 +34,46 @@ pub fn line<L: Ledger>(
 }
 
 // Answers the bytes of a line. Where they are refused, nothing is written.
-fn answer<L: Ledger>(survey: &mut Survey<L>, bytes: &[u8], reply: &mut [u8]) -> Result<usize, Fault>
-    requires { 4096 ≤ length reply.old }
-    ensures answered { Answered L.Evidence L.Ledger.own survey.old bytes.now reply.old reply.new result survey.new }
-    ensures small { IfErr result (λ fault. detail_of fault < 65536) }
+fn answer<L: Ledger>(
+    survey: &mut Survey<L>,
+    bytes: &[u8],
+    reply: &mut [u8; REPLY],
+) -> Result<usize, Fault>
+    ensures { Answered L.Evidence L.Ledger.own survey.old bytes.now reply.old reply.new result survey.new }
 {
     let request = read_request(bytes)?;
     Ok(serve(survey, request, reply)?)
 }
 
-// Makes the calls of a request.
+// Makes the calls of a request, and replies where they are accepted.
 fn serve<L: Ledger>(
     survey: &mut Survey<L>,
     request: Request,
-    reply: &mut [u8],
+    reply: &mut [u8; REPLY],
 ) -> Result<usize, Refusal>
-    requires { 4096 ≤ length reply.old }
-    ensures served { Served L.Evidence L.Ledger.own survey.old request reply.old reply.new result survey.new }
-    ensures small { IfErr result (λ e. refusal-detail e < 65536) }
+    ensures { Served L.Evidence L.Ledger.own survey.old request reply.old reply.new result survey.new }
 {
     match request {
-        Request::Enlist(span) => enlist(survey, span, reply),
-        Request::Share(i, j) => share(survey, i, j, reply),
-        Request::Part(i, j) => part(survey, i, j, reply),
-        Request::Resolve => resolve(survey, reply),
+        Request::Enlist(span) => {
+            let baseline = survey.enlist(span)?;
+            Ok(put_ok(reply, &[Field::Number(baseline as u16)]))
+        }
+        Request::Share(i, j) => {
+            let changed = survey.share(i as usize, j as usize)?;
+            Ok(put_ok(reply, &[Field::Number(u16::from(changed))]))
+        }
+        Request::Part(i, j) => {
+            let changed = survey.part(i as usize, j as usize)?;
+            Ok(put_ok(reply, &[Field::Number(u16::from(changed))]))
+        }
+        Request::Resolve => {
+            let found = survey.resolve()?;
+            let answers = [
+                Field::Number(found.imagers as u16),
+                Field::Number(found.doubtful as u16),
+            ];
+            Ok(put_ok(reply, &answers))
+        }
         Request::Issue => issue(survey, reply),
     }
 }

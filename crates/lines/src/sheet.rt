@@ -6,10 +6,7 @@ ghost use Rattle.lines.specs.Sheet.{LineEnd};
 pub fn line_end(bytes: &[u8], at: usize) -> usize
     ensures { LineEnd bytes.now at result }
 {
-    for i in at..bytes.len() {
-        if bytes[i] == b'\n' {
-            return i + 1;
-        }
-    }
-    bytes.len()
+    (at..bytes.len())
+        .find(|&i| bytes[i] == b'\n')
+        .map_or(bytes.len(), |i| i + 1)
 }

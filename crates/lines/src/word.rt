@@ -1,7 +1,10 @@
 //! The words of the sheet.
 
-ghost use Rattle.std.specs.Prelude.{◌≡◌, MatchOption};
+ghost use Rattle.std.specs.Prelude.{◌≡◌, MatchResult};
 ghost use Rattle.lines.specs.Words.{NoWord, word_text, numbers_after};
+ghost use Rattle.lines.specs.declared.fault.TextFault.TheVariants.{UnknownWord};
+
+use super::fault::TextFault;
 
 /// A word of the sheet.
 #[derive(Clone, Copy)]
@@ -13,21 +16,24 @@ pub enum Word {
     Issue,
 }
 
-impl Word {
-    // The word that these bytes are.
-    pub fn of(bytes: &[u8]) -> Option<Word>
-        ensures { MatchOption result (NoWord bytes.now) (λ w. bytes.now ≡ word_text w) }
-    {
+impl TryFrom<&[u8]> for Word {
+    type Error = TextFault;
+
+    ghost try_from_gives = { λ bytes r. MatchResult r (λ w. bytes.now ≡ word_text w) (λ fault. (fault ≡ UnknownWord) × NoWord bytes.now) };
+
+    fn try_from(bytes: &[u8]) -> Result<Word, TextFault> {
         match bytes {
-            b"enlist" => Some(Word::Enlist),
-            b"share" => Some(Word::Share),
-            b"part" => Some(Word::Part),
-            b"resolve" => Some(Word::Resolve),
-            b"issue" => Some(Word::Issue),
-            _ => None,
+            b"enlist" => Ok(Word::Enlist),
+            b"share" => Ok(Word::Share),
+            b"part" => Ok(Word::Part),
+            b"resolve" => Ok(Word::Resolve),
+            b"issue" => Ok(Word::Issue),
+            _ => Err(TextFault::UnknownWord),
         }
     }
+}
 
+impl Word {
     // How many numbers follow the word.
     pub fn numbers(self) -> usize
         ensures { result ≡ numbers_after self }

@@ -2,7 +2,7 @@ use Rattle.std.proofs.Common.{refl, rules}
 use Rattle.std.proofs.lemmas.Result.{err_from_is_err_and}
 use Rattle.files.specs.Reading.{fields}
 use Rattle.lines.specs.declared.word.Word.TheVariants.{Enlist, Share, Part}
-use Rattle.lines.proofs.Asked.{line_of_fields, one_field, two_fields, pair_fields, wrong_of_pair, wrong_of_one}
+use Rattle.lines.proofs.Asked.{line_of_fields, one_field, two_fields, pair_fields, wrong_of_pair, wrong_of_one, wrong_number}
 use Rattle.lines.proofs.request.read_request.Goals as goal
 
 pub returns-in-Resolve : goal.returns-in-Resolve
@@ -25,16 +25,19 @@ returns-in_ok-i-in-Part c =
     let pair = c.in_ok-i-in-Part.ensures in
     line_of_fields _ _ _ c.in-Some.ensures (pair_fields _ _ pair.0 _ _ pair.1 (search rules))
 
-pub returns-in_err-read_span-in-Enlist : goal.returns-in_err-read_span-in-Enlist
-returns-in_err-read_span-in-Enlist c =
+pub returns-in_err-word : goal.returns-in_err-word
+returns-in_err-word c =
     let p = err_from_is_err_and c.from_residual.result c.from_residual.ensures.1 in
     let text = c.in-Some.text.now in
+    let fault = c.in_err-word.ensures in
+    rw (p.1, p.2, fault.0) (fields text, (text, c.in-Some.ensures, refl), fault.1)
+
+pub returns-in_err-read_span-in-Enlist : goal.returns-in_err-read_span-in-Enlist
+returns-in_err-read_span-in-Enlist c =
+    let p = err_from_is_err_and c.from_residual-in_err-read_span-in-Enlist.result c.from_residual-in_err-read_span-in-Enlist.ensures.1 in
+    let text = c.in-Some.text.now in
     rw (p.1, p.2) (
-      fields text,
-      Enlist,
-      ((text, c.in-Some.ensures, refl), search rules),
-      search rules,
-      wrong_of_one (fields text) _ (search rules) c.in_err-read_span-in-Enlist.ensures,
+    wrong_number _ text Enlist _ c.in-Some.ensures (search rules) (search rules) (wrong_of_one (fields text) _ (search rules) c.in_err-read_span-in-Enlist.ensures)
     )
 
 pub returns-in_err-i-in-Share : goal.returns-in_err-i-in-Share
@@ -42,11 +45,7 @@ returns-in_err-i-in-Share c =
     let p = err_from_is_err_and c.from_residual-in_err-i-in-Share.result c.from_residual-in_err-i-in-Share.ensures.1 in
     let text = c.in-Some.text.now in
     rw (p.1, p.2) (
-      fields text,
-      Share,
-      ((text, c.in-Some.ensures, refl), search rules),
-      search rules,
-      wrong_of_pair (fields text) _ (search rules) c.in_err-i-in-Share.ensures,
+    wrong_number _ text Share _ c.in-Some.ensures (search rules) (search rules) (wrong_of_pair (fields text) _ (search rules) c.in_err-i-in-Share.ensures)
     )
 
 pub returns-in_err-i-in-Part : goal.returns-in_err-i-in-Part
@@ -54,9 +53,5 @@ returns-in_err-i-in-Part c =
     let p = err_from_is_err_and c.from_residual-in_err-i-in-Part.result c.from_residual-in_err-i-in-Part.ensures.1 in
     let text = c.in-Some.text.now in
     rw (p.1, p.2) (
-      fields text,
-      Part,
-      ((text, c.in-Some.ensures, refl), search rules),
-      search rules,
-      wrong_of_pair (fields text) _ (search rules) c.in_err-i-in-Part.ensures,
+    wrong_number _ text Part _ c.in-Some.ensures (search rules) (search rules) (wrong_of_pair (fields text) _ (search rules) c.in_err-i-in-Part.ensures)
     )
