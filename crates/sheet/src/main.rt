@@ -2,9 +2,8 @@
 
 #![tactic(auto)]
 
-use anyhow::anyhow;
 use ledgers::WordGrid;
-use lines::{line, line_end};
+use lines::line;
 use std::io::{Read, Write};
 use survey::Survey;
 
@@ -22,24 +21,17 @@ fn answer_line<W: Write>(
     out: &mut W,
 ) -> anyhow::Result<()> {
     let mut reply = [0; 4096];
-    let Ok(length) = line(survey, bytes, number, &mut reply) else {
-        return Err(anyhow!("the reply buffer is short"));
-    };
-    out.write_all(&reply[0..length])?;
+    let length = line(survey, bytes, number, &mut reply).unwrap();
+    out.write_all(&reply[..length])?;
     Ok(())
 }
 
 // Answers the lines of a sheet, one after another.
 fn answer_sheet<W: Write>(sheet: &[u8], out: &mut W) -> anyhow::Result<()> {
     let mut survey = Survey::open(1, WordGrid::new());
-    let mut at = 0;
-    for number in 1..=MOST_LINES {
-        if at >= sheet.len() {
-            break;
-        }
-        let end = line_end(sheet, at);
-        answer_line(&mut survey, &sheet[at..end], number, out)?;
-        at = end;
+    let lines = sheet.split_inclusive(|byte| *byte == b'\n');
+    for (number, bytes) in (1..=MOST_LINES).zip(lines) {
+        answer_line(&mut survey, bytes, number, out)?;
     }
     Ok(())
 }
