@@ -6,7 +6,7 @@ use Rattle.lines.proofs.serve.line.Goals as goal
 pub put_no-requires : goal.put_no-requires
 put_no-requires g c =
     let a = c.in-Err.ensures in
-    line_detail (view g.L.Evidence g.L.Ledger c.args.survey.now) _ _ _ a.1 _ _ _ (g.L.Evidence.sound c.args.survey.now.ledger) a.2 a.3
+    line_detail (view g.L.Evidence g.L.Ledger c.args.survey.now) _ _ _ a.1 _ _ _ (g.met.L.Evidence.sound c.args.survey.now.ledger) a.2 a.3
 
 pub returns-in-Ok : goal.returns-in-Ok
 returns-in-Ok g c =
