@@ -2,10 +2,11 @@
 use Rattle.std.specs.Prelude.{◌≡◌, ℕ, ◌+◌, Bool, true, false, cond, List, [], ◌∷◌, ◌++◌, None, Ok, Err, Result}
 use Rattle.evidence.specs.declared.refusal.Refusal.{Refusal}
 use Rattle.evidence.specs.Refusals.{first_no}
-use Rattle.survey.specs.declared.opening.Opening.{Opening}
-use Rattle.survey.specs.declared.closing.Closing.{Closing}
+use Rattle.survey.specs.declared.slip.Slip.{Slip}
+use Rattle.survey.specs.declared.slip.ForProfile.{ForProfile}
+use Rattle.survey.specs.declared.slip.ForTable.{ForTable}
 use Rattle.survey.specs.declared.survey.Resolution.{Resolution}
-use Rattle.survey.specs.declared.survey.Stage.TheVariants.{Idle}
+use Rattle.survey.specs.declared.state.State.TheVariants as stage
 use Rattle.survey.specs.Views.{View}
 use Rattle.survey.specs.Questions.{begin_questions}
 use Rattle.survey.specs.Marks.{Enlisted, Marked}
@@ -30,10 +31,10 @@ change changed = cond changed 1 0 ∷ []
 -- Or its begin is refused, and nothing else is called.
 abbrev pub Issues : View → List Event → Result (List ℕ) Refusal → View → Type 0
 Issues v made (Ok text) w =
-    (p : Opening) × (q : Closing) × (k m : ℕ) × (old mid new : List ℕ)
+    (p : Slip ForProfile) × (q : Slip ForTable) × (k m : ℕ) × (old mid new : List ℕ)
     × (made ≡ calls.WriteTable q k mid new (Ok m) ∷ calls.WriteProfile p 0 old mid (Ok (q, k)) ∷ calls.Begin (Ok p) ∷ [])
     × (first_no (begin_questions v) ≡ None)
-    × (w ≡ with_issue v (v.begun + 1) Idle)
+    × (w ≡ with_issue v (v.begun + 1) stage.Resolved)
     × (text ≡ profile_text w ++ table_text w)
 Issues v made (Err e) w = (made ≡ calls.Begin (Err e) ∷ []) × Began v (Err e) w
 

@@ -7,9 +7,11 @@ use Rattle.evidence.specs.Table.{Sound}
 use Rattle.theory.specs.Record.{ends_of, doubt_of}
 use Rattle.files.proofs.Sizes.{bytes_fit}
 use Rattle.survey.specs.declared.survey.Survey.{Survey}
-use Rattle.survey.specs.declared.survey.Stage.{Stage}
-use Rattle.survey.specs.Views.{view}
-use Rattle.survey.specs.Issues.{with_issue, profile_text, table_text}
+use Rattle.survey.specs.declared.state.Layout.{Layout}
+use Rattle.survey.specs.declared.state.State.{State}
+use Rattle.survey.specs.declared.state.State.TheVariants.{Unresolved, Resolved, Begun, Profiled}
+use Rattle.survey.specs.Views.{view, with_state}
+use Rattle.survey.specs.Issues.{with_issue, profile_by, table_by, profile_text, table_text}
 
 -- copies of one thing, also past their end
 pub copies : {A : Type 0} (n i : ℕ) (a : A) → get_or (replicate n a) i a ≡ a
@@ -33,14 +35,20 @@ take_below (suc m) (x ∷ xs) n p h zero = h 0
 take_below (suc m) (x ∷ xs) n p h (suc i) = take_below m xs n p (λ j. h (suc j)) i
 
 -- both files of an issue that is begun have room in 4,096 bytes
-pub both_fit : {L : Type 0} (e : EvidenceGhosts L) (g : LedgerGhosts L) (s : Survey L g e) (begun : ℕ) (stage : Stage) → begun ≤ 9999
-    → Sound (e.meaning s.ledger)
-    → length (profile_text (with_issue (view e g s) begun stage)) + length (table_text (with_issue (view e g s) begun stage)) ≤ 4096
-both_fit e g s begun stage b sound =
+fit : {L : Type 0} (e : EvidenceGhosts L) (g : LedgerGhosts L) (s : Survey L g e) (issue : ℕ) (l : Layout) → issue ≤ 9999 → Sound (e.meaning s.ledger)
+    → let v = with_issue (view e g s) issue Begun in length (profile_by v l) + length (table_by v l) ≤ 4096
+fit e g s issue l b sound =
     let n = (e.meaning s.ledger).count in
     let few : length (take n s.spans) ≤ 64 = rw length-take (omega (arith, sound.few)) in
     omega (
       arith,
-      bytes_fit s.number begun s.imagers (take n s.spans) (ends_of s.kept) (doubt_of s.kept)
-          s.numbers.0 b s.numbers.1 few (λ i _. take_below n s.spans 65536 (omega arith) s.lengths i) (λ i _. s.chips i),
+      bytes_fit s.number issue l.imagers (take n s.spans) (ends_of l.record) (doubt_of l.record)
+          s.small b l.few few (λ i _. take_below n s.spans 65536 (omega arith) s.lengths i) (λ i _. l.chips i),
     )
+
+pub both_fit : {L : Type 0} (e : EvidenceGhosts L) (g : LedgerGhosts L) (s : Survey L g e) (issue : ℕ) (state : State) → issue ≤ 9999 → Sound (e.meaning s.ledger)
+    → let v = with_state (with_issue (view e g s) issue Begun) state in length (profile_text v) + length (table_text v) ≤ 4096
+both_fit e g s issue Unresolved b sound = omega arith
+both_fit e g s issue (Resolved l) b sound = fit e g s issue l b sound
+both_fit e g s issue (Begun l) b sound = fit e g s issue l b sound
+both_fit e g s issue (Profiled l) b sound = fit e g s issue l b sound

@@ -1,9 +1,13 @@
+-- Questions that were answered yes.
+pub mod Yes
 -- Tables that say the same are the same, and what the calls make of a view.
 pub mod Tables
 pub mod Changed
 -- What the files of an issue tell.
 pub mod Spans
 pub mod Fits
+-- The stages of an issue.
+pub mod Stages
 -- What a history tells of a survey.
 pub mod Stands
 -- The law.

@@ -4,7 +4,7 @@ use Rattle.evidence.specs.declared.refusal.Refusal.{Refusal}
 use Rattle.theory.specs.Layout.{Ends}
 use Rattle.theory.specs.Clusters.{Doubtful}
 use Rattle.theory.specs.Placed.{Solved}
-use Rattle.survey.specs.Papers.{opening, closing}
+use Rattle.survey.specs.Slips.{slip}
 use Rattle.survey.specs.Told.{together}
 use Rattle.survey.specs.Resolves.{how_many}
 use Rattle.survey.specs.History.{Event, Enlist, Share, Part, Resolve, Begin, WriteProfile, WriteTable, Withdraw, AskEnds, AskCommon, AskDoubt, Deed, baselines, sharing, table_of, issues}
@@ -30,8 +30,8 @@ Answered n d (Share i j r) = IfOk r (λ changed. changed ≡ not (sharing d i j)
 Answered n d (Part i j r) = IfOk r (λ changed. changed ≡ sharing d i j)
 Answered n d (Resolve r) = IfOk r (λ a. (ends : ℕ → Ends) × (doubtful : ℕ → Bool)
     × Solved (table_of d) a.imagers ends doubtful × (a.doubtful ≡ how_many doubtful (baselines d)))
-Answered n d (Begin r) = IfOk r (λ p. p ≡ opening n (issues d + 1))
-Answered n d (WriteProfile p at old new r) = IfOk r (λ a. a.0 ≡ closing n (issues d)) × HandedBack p r × Untouched old new r
+Answered n d (Begin r) = IfOk r (λ p. p ≡ slip n (issues d + 1))
+Answered n d (WriteProfile p at old new r) = IfOk r (λ a. a.0 ≡ slip n (issues d)) × HandedBack p r × Untouched old new r
 Answered n d (WriteTable p at old new r) = HandedBack p r × Untouched old new r
 Answered n d (Withdraw p r) = HandedBack p r
 Answered n d (AskEnds i r) = IfOk r (λ told. ByLayout d (λ ends. told ≡ ends i))

@@ -5,8 +5,9 @@ use Rattle.evidence.specs.declared.refusal.Refusal.{Refusal}
 use Rattle.evidence.specs.Table.{Table}
 use Rattle.evidence.specs.Changes.{is_pair}
 use Rattle.theory.specs.Layout.{Ends}
-use Rattle.survey.specs.declared.opening.Opening.{Opening}
-use Rattle.survey.specs.declared.closing.Closing.{Closing}
+use Rattle.survey.specs.declared.slip.Slip.{Slip}
+use Rattle.survey.specs.declared.slip.ForProfile.{ForProfile}
+use Rattle.survey.specs.declared.slip.ForTable.{ForTable}
 use Rattle.survey.specs.declared.papers.Paper.{Paper}
 use Rattle.survey.specs.declared.survey.Resolution.{Resolution}
 
@@ -16,9 +17,9 @@ pub data Event : Type 0 where
   Share : ℕ → ℕ → Result Bool Refusal → Event
   Part : ℕ → ℕ → Result Bool Refusal → Event
   Resolve : Result Resolution Refusal → Event
-  Begin : Result Opening Refusal → Event
-  WriteProfile : Opening → ℕ → List ℕ → List ℕ → Result (Closing × ℕ) (Opening × Refusal) → Event
-  WriteTable : Closing → ℕ → List ℕ → List ℕ → Result ℕ (Closing × Refusal) → Event
+  Begin : Result (Slip ForProfile) Refusal → Event
+  WriteProfile : Slip ForProfile → ℕ → List ℕ → List ℕ → Result (Slip ForTable × ℕ) (Slip ForProfile × Refusal) → Event
+  WriteTable : Slip ForTable → ℕ → List ℕ → List ℕ → Result ℕ (Slip ForTable × Refusal) → Event
   Withdraw : Paper → Result (Unit {0}) (Paper × Refusal) → Event
   AskEnds : ℕ → Result Ends Refusal → Event
   AskCommon : ℕ → ℕ → Result (Option ℕ) Refusal → Event

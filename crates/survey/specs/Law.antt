@@ -6,13 +6,16 @@ use Rattle.evidence.specs.declared.refusal.Refusal.{Refusal}
 use Rattle.evidence.specs.declared.refusal.Refusal.TheVariants.{NoLayout}
 use Rattle.theory.specs.Layout.{Ends, Layout}
 use Rattle.theory.specs.Clusters.{Doubtful}
-use Rattle.theory.specs.Placed.{Solved, Clash}
-use Rattle.theory.specs.Record.{ends_of, doubt_of}
+use Rattle.theory.specs.Placed.{Clash}
+use Rattle.theory.specs.Record.{doubt_of}
 use Rattle.files.specs.Writing.{splice}
-use Rattle.survey.specs.declared.opening.Opening.{Opening}
-use Rattle.survey.specs.declared.closing.Closing.{Closing}
+use Rattle.survey.specs.declared.slip.Slip.{Slip}
+use Rattle.survey.specs.declared.slip.ForProfile.{ForProfile}
+use Rattle.survey.specs.declared.slip.ForTable.{ForTable}
 use Rattle.survey.specs.declared.survey.Resolution.{Resolution}
 use Rattle.survey.specs.declared.survey.Survey.{Survey}
+use Rattle.survey.specs.Views.{view, Keeps}
+use Rattle.survey.specs.Resolves.{Solves}
 use Rattle.survey.specs.History.{Event, Resolve, WriteProfile, WriteTable, accepted, baselines, sharing, table_of, is_resolved, is_open, profiles}
 use Rattle.survey.specs.Runs.{Run}
 use Rattle.survey.specs.Refusing.{ProfileOf, TableOf, Refused}
@@ -36,19 +39,18 @@ module _ {L : Type 0} (e : EvidenceGhosts L) (g : LedgerGhosts L) (n most : ℕ)
         → (((i : ℕ) × (r ≡ Err (NoLayout i))) ↔ (((f : ℕ → Ends) × Layout (table_of (accepted older)) f) → ⊥))
         × ((i : ℕ) → r ≡ Err (NoLayout i) → Clash (table_of (accepted older)) i)
     -- While the history is resolved, the ends kept are those of the chosen, numbered layout of its table,
-    pub layout : is_resolved (accepted h) ≡ true
-        → Solved (table_of (accepted h)) t.imagers (ends_of t.kept) (doubt_of t.kept)
+    pub layout : is_resolved (accepted h) ≡ true → Keeps (view e g t) (Solves (table_of (accepted h)))
     -- and a baseline is kept as doubtful exactly when it is.
     pub doubt : is_resolved (accepted h) ≡ true → (i : ℕ) → i < baselines (accepted h)
-        → (doubt_of t.kept i ≡ true) ↔ Doubtful (table_of (accepted h)) i
+        → Keeps (view e g t) (λ l. (doubt_of l.record i ≡ true) ↔ Doubtful (table_of (accepted h)) i)
     -- Between an accepted table and its begin lies exactly one accepted profile.
-    pub order : (p : Closing) (at k : ℕ) (old new : List ℕ) (older : List Event) → Within h (WriteTable p at old new (Ok k)) older
+    pub order : (p : Slip ForTable) (at k : ℕ) (old new : List ℕ) (older : List Event) → Within h (WriteTable p at old new (Ok k)) older
         → (is_open (accepted older) ≡ true) × (profiles (accepted older) ≡ 1)
     -- An accepted profile or table left its bytes in the buffer from the place on, as many as answered, and changed no other.
-    pub profiles_written : (p : Opening) (at k : ℕ) (old new : List ℕ) (given : Closing) (older : List Event)
+    pub profiles_written : (p : Slip ForProfile) (at k : ℕ) (old new : List ℕ) (given : Slip ForTable) (older : List Event)
         → Within h (WriteProfile p at old new (Ok (given, k))) older
         → (text : List ℕ) × ProfileOf n (accepted older) text × (k ≡ length text) × (new ≡ splice old at text)
-    pub tables_written : (p : Closing) (at k : ℕ) (old new : List ℕ) (older : List Event)
+    pub tables_written : (p : Slip ForTable) (at k : ℕ) (old new : List ℕ) (older : List Event)
         → Within h (WriteTable p at old new (Ok k)) older
         → (text : List ℕ) × TableOf n (accepted older) text × (k ≡ length text) × (new ≡ splice old at text)
 

@@ -1,5 +1,6 @@
 -- What can be told of a survey, and its papers:
 pub mod Views
+pub mod Slips
 pub mod Papers
 -- the questions that its calls ask, and what they answer and leave:
 pub mod Questions

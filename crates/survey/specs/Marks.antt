@@ -1,9 +1,10 @@
 -- What enlisting a baseline and marking a pair answer and leave.
-use Rattle.std.specs.Prelude.{◌≡◌, ℕ, ◌+◌, Bool, false, cond, not, [], ◌∷◌, ◌++◌, Result}
+use Rattle.std.specs.Prelude.{◌≡◌, ℕ, ◌+◌, Bool, cond, not, [], ◌∷◌, ◌++◌, Result}
 use Rattle.std.specs.Bool.{beq}
 use Rattle.evidence.specs.declared.refusal.Refusal.{Refusal}
 use Rattle.evidence.specs.Table.{Table}
 use Rattle.evidence.specs.Changes.{is_pair}
+use Rattle.survey.specs.declared.state.State.TheVariants.{Unresolved}
 use Rattle.survey.specs.Views.{View}
 use Rattle.survey.specs.Questions.{Answers, enlist_questions, mark_questions}
 
@@ -25,11 +26,8 @@ with_baseline v span = record {
   table = one_more v.table;
   most = v.most;
   spans = v.spans ++ (span ∷ []);
-  resolved = false;
-  kept = v.kept;
-  imagers = v.imagers;
+  state = Unresolved;
   begun = v.begun;
-  stage = v.stage;
 }
 
 -- A change makes a survey unresolved; where nothing changes it stays as it was.
@@ -39,11 +37,8 @@ with_mark v i j on = record {
   table = with_pair v.table i j on;
   most = v.most;
   spans = v.spans;
-  resolved = cond (changes v.table i j on) false v.resolved;
-  kept = v.kept;
-  imagers = v.imagers;
+  state = cond (changes v.table i j on) Unresolved v.state;
   begun = v.begun;
-  stage = v.stage;
 }
 
 -- An enlisted baseline has the count as its number.

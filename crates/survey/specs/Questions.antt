@@ -5,7 +5,7 @@ use Rattle.evidence.specs.declared.refusal.Refusal.TheVariants.{IssueOpen, NoSpa
 use Rattle.evidence.specs.Refusals.{Question, first_no}
 use Rattle.evidence.specs.Changes.{grow_questions, set_questions}
 use Rattle.survey.specs.declared.papers.Paper.{Paper}
-use Rattle.survey.specs.Views.{View, idle}
+use Rattle.survey.specs.Views.{View, idle, has_layout}
 use Rattle.survey.specs.Papers.{admits}
 
 -- A call that asks answers what it gives, or the refusal of the first question that is answered no, and then all is the same.
@@ -14,17 +14,17 @@ Answers questions gives same (Ok a) = (first_no questions ≡ None) × gives a
 Answers questions gives same (Err e) = (first_no questions ≡ Some e) × same
 
 abbrev pub enlist_questions : View → ℕ → List Question
-enlist_questions v span = (idle v.stage, IssueOpen) ∷ (nat_lt 0 span, NoSpan) ∷ grow_questions v.table
+enlist_questions v span = (idle v.state, IssueOpen) ∷ (nat_lt 0 span, NoSpan) ∷ grow_questions v.table
 
 -- A share wants the pair `on`, a part does not.
 abbrev pub mark_questions : View → ℕ → ℕ → Bool → List Question
-mark_questions v i j on = (idle v.stage, IssueOpen) ∷ set_questions v.table v.most i j on
+mark_questions v i j on = (idle v.state, IssueOpen) ∷ set_questions v.table v.most i j on
 
 abbrev pub resolve_questions : View → List Question
-resolve_questions v = (idle v.stage, IssueOpen) ∷ []
+resolve_questions v = (idle v.state, IssueOpen) ∷ []
 
 abbrev pub begin_questions : View → List Question
-begin_questions v = (idle v.stage, IssueOpen) ∷ (v.resolved, Unresolved) ∷ (nat_lt v.begun 9999, ManyIssues) ∷ []
+begin_questions v = (idle v.state, IssueOpen) ∷ (has_layout v.state, Unresolved) ∷ (nat_lt v.begun 9999, ManyIssues) ∷ []
 
 -- Is it the paper of the open issue, and is there room for the text from this place on?
 abbrev pub text_questions : Bool → List ℕ → List ℕ → ℕ → List Question
@@ -36,11 +36,11 @@ withdraw_questions v p = (admits v p, WrongPaper) ∷ []
 
 -- What is asked about one baseline, and about two.
 abbrev pub one_questions : View → ℕ → List Question
-one_questions v i = (nat_lt i v.table.count, PastCount) ∷ (v.resolved, Unresolved) ∷ []
+one_questions v i = (nat_lt i v.table.count, PastCount) ∷ (has_layout v.state, Unresolved) ∷ []
 
 abbrev pub two_questions : View → ℕ → ℕ → List Question
 two_questions v i j =
     (nat_lt i v.table.count && nat_lt j v.table.count, PastCount)
     ∷ (not (i == j), SameBaseline)
-    ∷ (v.resolved, Unresolved)
+    ∷ (has_layout v.state, Unresolved)
     ∷ []

@@ -8,8 +8,9 @@ use Rattle.theory.specs.Layout.{Ends}
 use Rattle.theory.specs.Placed.{Solved, Clash}
 use Rattle.files.specs.Profile.{profile_bytes}
 use Rattle.files.specs.Table.{table_bytes}
-use Rattle.survey.specs.declared.opening.Opening.{Opening}
-use Rattle.survey.specs.declared.closing.Closing.{Closing}
+use Rattle.survey.specs.declared.slip.Slip.{Slip}
+use Rattle.survey.specs.declared.slip.ForProfile.{ForProfile}
+use Rattle.survey.specs.declared.slip.ForTable.{ForTable}
 use Rattle.survey.specs.declared.papers.Paper.{Paper}
 use Rattle.survey.specs.declared.papers.Paper.TheVariants.{Opens, Closes}
 use Rattle.survey.specs.History.{Event, Enlist, Share, Part, Resolve, Begin, WriteProfile, WriteTable, Withdraw, AskEnds, AskCommon, AskDoubt, Deed, baselines, enlisted_spans, sharing, table_of, is_resolved, before_resolve, issues, is_open, profiles}
@@ -25,10 +26,10 @@ handed (Err (back, e)) = Some e
 
 -- A paper is right when it has the survey's number and that of the latest issue, the issue is open, and no profile was written
 -- since it was begun (an opening paper) or one was (a closing one).
-abbrev pub right_opening : ℕ → List Deed → Opening → Bool
+abbrev pub right_opening : ℕ → List Deed → Slip ForProfile → Bool
 right_opening n d p = (p.survey == n && p.issue == issues d) && (is_open d && profiles d == 0)
 
-abbrev pub right_closing : ℕ → List Deed → Closing → Bool
+abbrev pub right_closing : ℕ → List Deed → Slip ForTable → Bool
 right_closing n d p = (p.survey == n && p.issue == issues d) && (is_open d && not (profiles d == 0))
 
 abbrev pub right : ℕ → List Deed → Paper → Bool

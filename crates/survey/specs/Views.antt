@@ -1,26 +1,22 @@
 -- What can be told of a survey, whatever its ledger.
-use Rattle.std.specs.Prelude.{◌≡◌, ℕ, Bool, true, false, List, [], take}
+use Rattle.std.specs.Prelude.{◌≡◌, ℕ, Bool, true, false, List, [], take, Some, None, Option, is_some, IsSomeAnd}
 use Rattle.evidence.specs.Table.{Table}
 use Rattle.evidence.specs.declared.evidence.Evidence.{Ghosts as EvidenceGhosts}
 use Rattle.evidence.specs.declared.ledger.Ledger.{Ghosts as LedgerGhosts}
-use Rattle.theory.specs.declared.record.Record.{Record}
-use Rattle.survey.specs.declared.survey.Stage.{Stage}
-use Rattle.survey.specs.declared.survey.Stage.TheVariants.{Idle, Begun, Profiled}
+use Rattle.survey.specs.declared.state.Layout.{Layout}
+use Rattle.survey.specs.declared.state.State.{State}
+use Rattle.survey.specs.declared.state.State.TheVariants.{Unresolved, Resolved, Begun, Profiled}
 use Rattle.survey.specs.declared.survey.Survey.{Survey}
 
 -- The number of the survey, the table of its ledger and how many sharing pairs that has room for, the span of each baseline,
--- whether it is resolved, the record and the number of imagers that the latest resolve kept, how many issues were begun,
--- and how far the open one has come.
+-- how far it has come, and how many issues were begun.
 pub record View : Type 0 where
   pub number : ℕ
   pub table : Table
   pub most : ℕ
   pub spans : List ℕ
-  pub resolved : Bool
-  pub kept : Record
-  pub imagers : ℕ
+  pub state : State
   pub begun : ℕ
-  pub stage : Stage
 
 module _ {L : Type 0} (e : EvidenceGhosts L) (g : LedgerGhosts L) where
   abbrev pub view : Survey L g e → View
@@ -29,30 +25,49 @@ module _ {L : Type 0} (e : EvidenceGhosts L) (g : LedgerGhosts L) where
     table = e.meaning s.ledger;
     most = g.most s.ledger;
     spans = take (e.meaning s.ledger).count s.spans;
-    resolved = s.resolved;
-    kept = s.kept;
-    imagers = s.imagers;
+    state = s.state;
     begun = s.begun;
-    stage = s.stage;
   }
 
+-- Another state, and all else as it was.
+abbrev pub with_state : View → State → View
+with_state v state = record { number = v.number; table = v.table; most = v.most; spans = v.spans; state = state; begun = v.begun }
+
+-- The layout that a resolved survey has.
+abbrev pub layout_of : State → Option Layout
+layout_of Unresolved = None
+layout_of (Resolved l) = Some l
+layout_of (Begun l) = Some l
+layout_of (Profiled l) = Some l
+
+-- The survey is resolved.
+abbrev pub has_layout : State → Bool
+has_layout s = is_some (layout_of s)
+
+-- The survey keeps a layout, and it is such.
+abbrev pub Keeps : View → (Layout → Type 0) → Type 0
+Keeps v says = IsSomeAnd (layout_of v.state) says
+
 -- No issue is open.
-abbrev pub idle : Stage → Bool
-idle Idle = true
-idle Begun = false
-idle Profiled = false
+abbrev pub idle : State → Bool
+idle Unresolved = true
+idle (Resolved l) = true
+idle (Begun l) = false
+idle (Profiled l) = false
 
 -- The open issue waits for its profile.
-abbrev pub awaits_profile : Stage → Bool
-awaits_profile Idle = false
-awaits_profile Begun = true
-awaits_profile Profiled = false
+abbrev pub awaits_profile : State → Bool
+awaits_profile Unresolved = false
+awaits_profile (Resolved l) = false
+awaits_profile (Begun l) = true
+awaits_profile (Profiled l) = false
 
 -- The open issue waits for its table.
-abbrev pub awaits_table : Stage → Bool
-awaits_table Idle = false
-awaits_table Begun = false
-awaits_table Profiled = true
+abbrev pub awaits_table : State → Bool
+awaits_table Unresolved = false
+awaits_table (Resolved l) = false
+awaits_table (Begun l) = false
+awaits_table (Profiled l) = true
 
 -- A survey that is just opened: no baselines, unresolved, no issue begun.
 pub record Fresh (number most : ℕ) (v : View) : Type 0 where
@@ -60,6 +75,5 @@ pub record Fresh (number most : ℕ) (v : View) : Type 0 where
   pub baselines : v.table.count ≡ 0
   pub room : v.most ≡ most
   pub spans : v.spans ≡ []
-  pub unresolved : v.resolved ≡ false
+  pub unresolved : v.state ≡ Unresolved
   pub begun : v.begun ≡ 0
-  pub idle : v.stage ≡ Idle

@@ -1,17 +1,17 @@
 //! Issues: begun, written out and ended.
 
-ghost use Rattle.std.specs.Prelude.{◌≡◌, ◌+◌, ◌≤◌, length, OnOk};
+ghost use Rattle.std.specs.Prelude.{◌≡◌, ◌+◌, ◌≤◌, cond, length, OnOk};
 ghost use Rattle.files.specs.Contents.{profile_of, table_of};
-ghost use Rattle.survey.specs.Issues.{Began, ProfileWritten, TableWritten, Withdrew, profile_text, table_text};
-ghost use Rattle.survey.specs.Papers.{admits, admits_opening, admits_closing, is_latest};
+ghost use Rattle.survey.specs.Issues.{profile_by, table_by, profile_text, table_text};
+ghost use Rattle.survey.specs.Papers.{admits, is_latest};
 ghost use Rattle.survey.specs.History.{Begin, WriteProfile, WriteTable, Withdraw};
-ghost use Rattle.survey.specs.Runs.{Extends};
-ghost use Rattle.survey.specs.Views.{view};
+ghost use Rattle.survey.specs.Runs.{Leads};
+ghost use Rattle.survey.specs.Views.{view, layout_of};
 
-use super::closing::Closing;
-use super::opening::Opening;
 use super::papers::Paper;
-use super::survey::{Stage, Survey};
+use super::slip::{Closing, Opening, Slip};
+use super::state::{Layout, State};
+use super::survey::Survey;
 use evidence::{Ledger, Refusal};
 use files::{Contents, write_profile, write_table};
 
@@ -22,21 +22,19 @@ impl<L: Ledger> Survey<L> {
     /// issue is open, else with 15 where the survey is not resolved, else with 16 after 9,999 issues. The two files of the
     /// issue have at most 4,096 bytes together.
     pub fn begin(&mut self) -> Result<Opening, Refusal>
-        ensures told { Began (view L.Evidence L.Ledger.own self.old) result (view L.Evidence L.Ledger.own self.new) }
-        ensures run { Extends L.Evidence L.Ledger.own self.old (Begin result) self.new }
+        ensures made { Leads L.Evidence L.Ledger.own self.old (Begin result) self.new }
         ensures room { OnOk result (length (profile_text (view L.Evidence L.Ledger.own self.new)) + length (table_text (view L.Evidence L.Ledger.own self.new)) ≤ 4096) }
     {
-        if !self.is_idle() {
-            return Err(Refusal::IssueOpen);
-        }
-        if !self.resolved {
-            return Err(Refusal::Unresolved);
-        }
+        let begun = match self.state {
+            State::Begun(_) | State::Profiled(_) => return Err(Refusal::IssueOpen),
+            State::Unresolved => return Err(Refusal::Unresolved),
+            State::Resolved(layout) => State::Begun(layout),
+        };
         if self.begun >= MOST_ISSUES {
             return Err(Refusal::ManyIssues);
         }
         self.begun += 1;
-        self.stage = Stage::Begun;
+        self.state = begun;
         Ok(Opening::new(self.number, self.begun))
     }
 
@@ -49,15 +47,15 @@ impl<L: Ledger> Survey<L> {
         buffer: &mut [u8],
         place: usize,
     ) -> Result<(Closing, usize), (Opening, Refusal)>
-        ensures told { ProfileWritten (view L.Evidence L.Ledger.own self.old) paper place buffer.old buffer.new result (view L.Evidence L.Ledger.own self.new) }
-        ensures run { Extends L.Evidence L.Ledger.own self.old (WriteProfile paper place buffer.old buffer.new result) self.new }
+        ensures { Leads L.Evidence L.Ledger.own self.old (WriteProfile paper place buffer.old buffer.new result) self.new }
     {
-        if !self.admits_opening(&paper) {
-            return Err((paper, Refusal::WrongPaper));
-        }
-        match write_profile(&self.contents(), buffer, place) {
+        let layout = match self.state {
+            State::Begun(layout) if self.is_latest(&paper) => layout,
+            _ => return Err((paper, Refusal::WrongPaper)),
+        };
+        match write_profile(&self.contents(&layout), buffer, place) {
             Ok(bytes) => {
-                self.stage = Stage::Profiled;
+                self.state = State::Profiled(layout);
                 Ok((paper.exchange(), bytes))
             }
             Err(refusal) => Err((paper, refusal)),
@@ -73,16 +71,16 @@ impl<L: Ledger> Survey<L> {
         buffer: &mut [u8],
         place: usize,
     ) -> Result<usize, (Closing, Refusal)>
-        ensures told { TableWritten (view L.Evidence L.Ledger.own self.old) paper place buffer.old buffer.new result (view L.Evidence L.Ledger.own self.new) }
-        ensures run { Extends L.Evidence L.Ledger.own self.old (WriteTable paper place buffer.old buffer.new result) self.new }
+        ensures { Leads L.Evidence L.Ledger.own self.old (WriteTable paper place buffer.old buffer.new result) self.new }
     {
-        if !self.admits_closing(&paper) {
-            return Err((paper, Refusal::WrongPaper));
-        }
-        match write_table(&self.contents(), buffer, place) {
+        let layout = match self.state {
+            State::Profiled(layout) if self.is_latest(&paper) => layout,
+            _ => return Err((paper, Refusal::WrongPaper)),
+        };
+        match write_table(&self.contents(&layout), buffer, place) {
             Ok(bytes) => {
                 paper.spend();
-                self.stage = Stage::Idle;
+                self.state = State::Resolved(layout);
                 Ok(bytes)
             }
             Err(refusal) => Err((paper, refusal)),
@@ -92,68 +90,46 @@ impl<L: Ledger> Survey<L> {
     /// Ends the open issue and writes nothing. Refused with 17 where the paper is not that of the open issue at its stage; the
     /// paper is then handed back.
     pub fn withdraw(&mut self, paper: Paper) -> Result<(), (Paper, Refusal)>
-        ensures told { Withdrew (view L.Evidence L.Ledger.own self.old) paper result (view L.Evidence L.Ledger.own self.new) }
-        ensures run { Extends L.Evidence L.Ledger.own self.old (Withdraw paper result) self.new }
+        ensures { Leads L.Evidence L.Ledger.own self.old (Withdraw paper result) self.new }
     {
-        if !self.admits(&paper) {
+        let Some(layout) = self.admitted(&paper) else {
             return Err((paper, Refusal::WrongPaper));
-        }
+        };
         paper.spend();
-        self.stage = Stage::Idle;
+        self.state = State::Resolved(layout);
         Ok(())
     }
 
-    // Whether this opening paper is that of the open issue, whose profile is not written.
-    fn admits_opening(&self, paper: &Opening) -> bool
-        ensures { result ≡ admits_opening (view L.Evidence L.Ledger.own self.now) paper.now }
+    // The layout of the open issue, if this paper is that of the issue at its stage.
+    fn admitted(&self, paper: &Paper) -> Option<Layout>
+        ensures { result ≡ cond (admits (view L.Evidence L.Ledger.own self.now) paper.now) (layout_of self.now.state) None }
     {
-        let awaits = match self.stage {
-            Stage::Begun => true,
-            Stage::Idle | Stage::Profiled => false,
-        };
-        self.is_latest(paper.survey(), paper.issue()) & awaits
-    }
-
-    // Whether this closing paper is that of the open issue, whose profile is written.
-    fn admits_closing(&self, paper: &Closing) -> bool
-        ensures { result ≡ admits_closing (view L.Evidence L.Ledger.own self.now) paper.now }
-    {
-        let awaits = match self.stage {
-            Stage::Profiled => true,
-            Stage::Idle | Stage::Begun => false,
-        };
-        self.is_latest(paper.survey(), paper.issue()) & awaits
-    }
-
-    // Whether this paper is that of the open issue at its stage.
-    fn admits(&self, paper: &Paper) -> bool
-        ensures { result ≡ admits (view L.Evidence L.Ledger.own self.now) paper.now }
-    {
-        match paper {
-            Paper::Opens(opening) => self.admits_opening(opening),
-            Paper::Closes(closing) => self.admits_closing(closing),
+        match (paper, self.state) {
+            (Paper::Opens(slip), State::Begun(layout)) if self.is_latest(slip) => Some(layout),
+            (Paper::Closes(slip), State::Profiled(layout)) if self.is_latest(slip) => Some(layout),
+            _ => None,
         }
     }
 
-    // Whether these are the numbers of this survey and of its latest issue.
-    fn is_latest(&self, survey: u16, issue: u16) -> bool
-        ensures { result ≡ is_latest (view L.Evidence L.Ledger.own self.now) survey issue }
+    // Whether the numbers of a paper are those of this survey and of its latest issue.
+    fn is_latest<For>(&self, paper: &Slip<For>) -> bool
+        ensures { result ≡ is_latest (view L.Evidence L.Ledger.own self.now) paper.now }
     {
-        (survey == self.number) & (issue == self.begun)
+        paper.survey() == self.number && paper.issue() == self.begun
     }
 
-    // What the files of the open issue tell.
-    fn contents(&self) -> Contents<'_>
-        ensures profile { profile_of result ≡ profile_text (view L.Evidence L.Ledger.own self.now) }
-        ensures table { table_of result ≡ table_text (view L.Evidence L.Ledger.own self.now) }
+    // What the files of the latest issue tell by this layout.
+    fn contents<'a>(&'a self, layout: &'a Layout) -> Contents<'a>
+        ensures profile { profile_of result ≡ profile_by (view L.Evidence L.Ledger.own self.now) layout.now }
+        ensures table { table_of result ≡ table_by (view L.Evidence L.Ledger.own self.now) layout.now }
     {
         let count = self.ledger.count();
         Contents {
             survey: self.number,
             issue: self.begun,
-            imagers: self.imagers,
+            imagers: layout.imagers,
             spans: &self.spans[0..count],
-            record: &self.kept,
+            record: &layout.record,
         }
     }
 }

@@ -3,9 +3,8 @@
 #![tactic(auto)]
 
 // The papers of an issue.
-mod closing;
-mod opening;
 mod papers;
+mod slip;
 
 // A survey, and its calls.
 mod asked;
@@ -13,9 +12,9 @@ mod issue;
 mod marks;
 mod resolve;
 mod start;
+mod state;
 mod survey;
 
-pub use closing::Closing;
-pub use opening::Opening;
 pub use papers::Paper;
-pub use survey::{Resolution, Stage, Survey};
+pub use slip::{Closing, ForProfile, ForTable, Opening, Slip};
+pub use survey::{Resolution, Survey};

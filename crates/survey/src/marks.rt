@@ -1,11 +1,12 @@
 //! What is enlisted and marked in a survey.
 
 ghost use Rattle.std.specs.Prelude.{◌≡◌, true, false};
-ghost use Rattle.survey.specs.Marks.{Enlisted, Marked};
+ghost use Rattle.survey.specs.Marks.{Marked};
 ghost use Rattle.survey.specs.History.{Enlist, Share, Part};
-ghost use Rattle.survey.specs.Runs.{Extends};
+ghost use Rattle.survey.specs.Runs.{Leads};
 ghost use Rattle.survey.specs.Views.{view};
 
+use super::state::State;
 use super::survey::Survey;
 use evidence::{Ledger, Refusal};
 
@@ -13,8 +14,7 @@ impl<L: Ledger> Survey<L> {
     /// Enlists a baseline of this span, answers its number, and makes the survey unresolved. Refused with 9 while an issue is
     /// open, else with 10 where the span is 0, else with 11 at 64 baselines.
     pub fn enlist(&mut self, span: u16) -> Result<usize, Refusal>
-        ensures told { Enlisted (view L.Evidence L.Ledger.own self.old) span result (view L.Evidence L.Ledger.own self.new) }
-        ensures run { Extends L.Evidence L.Ledger.own self.old (Enlist span result) self.new }
+        ensures { Leads L.Evidence L.Ledger.own self.old (Enlist span result) self.new }
     {
         if !self.is_idle() {
             return Err(Refusal::IssueOpen);
@@ -24,7 +24,7 @@ impl<L: Ledger> Survey<L> {
         }
         let baseline = self.ledger.grow()?;
         self.spans[baseline] = span;
-        self.resolved = false;
+        self.state = State::Unresolved;
         Ok(baseline)
     }
 
@@ -32,8 +32,7 @@ impl<L: Ledger> Survey<L> {
     /// while an issue is open, else with 12 where a number is not below the count, else with 13 where the two are equal, else
     /// with 14 where there is no room for a new sharing pair.
     pub fn share(&mut self, i: usize, j: usize) -> Result<bool, Refusal>
-        ensures told { Marked (view L.Evidence L.Ledger.own self.old) i j true result (view L.Evidence L.Ledger.own self.new) }
-        ensures run { Extends L.Evidence L.Ledger.own self.old (Share i j result) self.new }
+        ensures { Leads L.Evidence L.Ledger.own self.old (Share i j result) self.new }
     {
         self.mark(i, j, true)
     }
@@ -41,8 +40,7 @@ impl<L: Ledger> Survey<L> {
     /// Marks that two baselines do not share, and answers whether they did; a change makes the survey unresolved. Refused
     /// with 9 while an issue is open, else with 12 where a number is not below the count, else with 13 where the two are equal.
     pub fn part(&mut self, i: usize, j: usize) -> Result<bool, Refusal>
-        ensures told { Marked (view L.Evidence L.Ledger.own self.old) i j false result (view L.Evidence L.Ledger.own self.new) }
-        ensures run { Extends L.Evidence L.Ledger.own self.old (Part i j result) self.new }
+        ensures { Leads L.Evidence L.Ledger.own self.old (Part i j result) self.new }
     {
         self.mark(i, j, false)
     }
@@ -56,7 +54,7 @@ impl<L: Ledger> Survey<L> {
         }
         let changed = self.ledger.set(i, j, on)?;
         if changed {
-            self.resolved = false;
+            self.state = State::Unresolved;
         }
         Ok(changed)
     }

@@ -1,7 +1,6 @@
 //! Either paper of an issue.
 
-use super::closing::Closing;
-use super::opening::Opening;
+use super::slip::{Closing, Opening};
 
 /// Either paper, to be withdrawn.
 pub enum Paper {

@@ -2,11 +2,11 @@
 
 ghost use Rattle.std.specs.Prelude.{◌≡◌, ◌≤◌, IfOk};
 ghost use Rattle.theory.specs.Record.{doubt_of};
-ghost use Rattle.survey.specs.Resolves.{Resolved, how_many};
+ghost use Rattle.survey.specs.Resolves.{how_many};
 ghost use Rattle.survey.specs.History.{Resolve};
-ghost use Rattle.survey.specs.Runs.{Extends};
-ghost use Rattle.survey.specs.Views.{view};
+ghost use Rattle.survey.specs.Runs.{Leads};
 
+use super::state::{Layout, State};
 use super::survey::{Resolution, Survey};
 use evidence::{Ledger, Refusal};
 use layout::place;
@@ -16,22 +16,20 @@ impl<L: Ledger> Survey<L> {
     /// Finds the layout of the survey and keeps it, and answers how many imagers and how many doubtful baselines there are.
     /// Refused with 9 while an issue is open, else with 18 where a cluster has no layout; the survey is then as it was.
     pub fn resolve(&mut self) -> Result<Resolution, Refusal>
-        ensures told { Resolved (view L.Evidence L.Ledger.own self.old) result (view L.Evidence L.Ledger.own self.new) }
-        ensures run { Extends L.Evidence L.Ledger.own self.old (Resolve result) self.new }
+        ensures made { Leads L.Evidence L.Ledger.own self.old (Resolve result) self.new }
         ensures few { IfOk result (λ found. (found.imagers ≤ 128) × (found.doubtful ≤ 64)) }
     {
         if !self.is_idle() {
             return Err(Refusal::IssueOpen);
         }
-        match place(&self.ledger, &mut self.kept) {
-            Ok(imagers) => {
-                self.imagers = imagers as u8;
-                self.resolved = true;
-                let doubtful = count_doubtful(&self.kept, self.ledger.count());
-                Ok(Resolution { imagers, doubtful })
-            }
-            Err(refusal) => Err(refusal),
-        }
+        let mut record = Record::new();
+        let imagers = place(&self.ledger, &mut record)?;
+        let doubtful = count_doubtful(&record, self.ledger.count());
+        self.state = State::Resolved(Layout {
+            record,
+            imagers: imagers as u8,
+        });
+        Ok(Resolution { imagers, doubtful })
     }
 }
 

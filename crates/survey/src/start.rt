@@ -4,9 +4,9 @@ ghost use Rattle.std.specs.Prelude.{◌≡◌};
 ghost use Rattle.survey.specs.Law.{Lawful};
 ghost use Rattle.survey.specs.Views.{view, idle, Fresh};
 
-use super::survey::{Stage, Survey};
+use super::state::State;
+use super::survey::Survey;
 use evidence::Ledger;
-use theory::Record;
 
 impl<L: Ledger> Survey<L> {
     /// Opens a survey: no baselines, unresolved, no issue begun. The ledger is cleared. Every run of calls from here keeps the
@@ -21,21 +21,15 @@ impl<L: Ledger> Survey<L> {
             number,
             ledger,
             spans: [0; 64],
-            resolved: false,
-            kept: Record::new(),
-            imagers: 0,
+            state: State::Unresolved,
             begun: 0,
-            stage: Stage::Idle,
         }
     }
 
     // Whether no issue is open.
     pub(crate) fn is_idle(&self) -> bool
-        ensures { result ≡ idle self.now.stage }
+        ensures { result ≡ idle self.now.state }
     {
-        match self.stage {
-            Stage::Idle => true,
-            Stage::Begun | Stage::Profiled => false,
-        }
+        matches!(self.state, State::Unresolved | State::Resolved(_))
     }
 }

@@ -1,7 +1,7 @@
 //! Papers in tests. Whatever a call answers, each of these ends with its papers spent or handed on.
 
 ghost use Rattle.std.specs.Prelude.{◌≡◌, true, false, IfOk};
-ghost use Rattle.survey.specs.declared.survey.Stage.TheVariants.{Idle};
+ghost use Rattle.survey.specs.declared.state.State.TheVariants.{Resolved};
 ghost use Rattle.survey.specs.Issues.{at_stage};
 ghost use Rattle.survey.specs.Papers.{admits, admits_opening, admits_closing};
 ghost use Rattle.survey.specs.Views.{view, idle};
@@ -13,14 +13,14 @@ use survey::{Closing, Opening, Paper, Survey};
 /// Ends the open issue by its paper.
 pub fn put_away<L: Ledger>(survey: &mut Survey<L>, paper: Paper)
     requires { admits (view L.Evidence L.Ledger.own survey.old) paper ≡ true }
-    ensures { view L.Evidence L.Ledger.own survey.new ≡ at_stage (view L.Evidence L.Ledger.own survey.old) Idle }
+    ensures { view L.Evidence L.Ledger.own survey.new ≡ at_stage (view L.Evidence L.Ledger.own survey.old) Resolved }
 {
     survey.withdraw(paper).unwrap();
 }
 
 /// Begins an issue, withdraws it and answers its number. While an issue is open, the survey stays the same.
 pub fn begin_and_withdraw<L: Ledger>(survey: &mut Survey<L>) -> Result<u16, Refusal>
-    ensures { idle (view L.Evidence L.Ledger.own survey.old).stage ≡ false → view L.Evidence L.Ledger.own survey.new ≡ view L.Evidence L.Ledger.own survey.old }
+    ensures { idle (view L.Evidence L.Ledger.own survey.old).state ≡ false → view L.Evidence L.Ledger.own survey.new ≡ view L.Evidence L.Ledger.own survey.old }
 {
     let opening = survey.begin()?;
     let issue = opening.issue();
@@ -67,7 +67,7 @@ pub fn no_profile<L: Ledger>(
 
 /// The refusals of what an open issue does not admit: to enlist, share, part, resolve and begin.
 pub fn meanwhile<L: Ledger>(survey: &mut Survey<L>) -> [Option<Refusal>; 5]
-    requires { idle (view L.Evidence L.Ledger.own survey.old).stage ≡ false }
+    requires { idle (view L.Evidence L.Ledger.own survey.old).state ≡ false }
     ensures { view L.Evidence L.Ledger.own survey.new ≡ view L.Evidence L.Ledger.own survey.old }
 {
     [

@@ -4,11 +4,12 @@ use Rattle.evidence.specs.declared.evidence.Evidence.{Ghosts as EvidenceGhosts}
 use Rattle.evidence.specs.declared.ledger.Ledger.{Ghosts as LedgerGhosts}
 use Rattle.evidence.specs.declared.refusal.Refusal.{Refusal}
 use Rattle.files.specs.Writing.{splice}
-use Rattle.survey.specs.declared.opening.Opening.{Opening}
-use Rattle.survey.specs.declared.closing.Closing.{Closing}
+use Rattle.survey.specs.declared.slip.Slip.{Slip}
+use Rattle.survey.specs.declared.slip.ForProfile.{ForProfile}
+use Rattle.survey.specs.declared.slip.ForTable.{ForTable}
 use Rattle.survey.specs.declared.survey.Survey.{Survey}
 use Rattle.survey.specs.History.{Event, WriteProfile, WriteTable, Deed, noted}
-use Rattle.survey.specs.Runs.{opened, Extends}
+use Rattle.survey.specs.Runs.{opened, step, Leads}
 use Rattle.survey.specs.Refusing.{Refused, ProfileOf, TableOf, refusal}
 use Rattle.survey.specs.Answering.{Answered}
 use Rattle.survey.specs.Law.{Lawful}
@@ -36,9 +37,9 @@ module _ {L : Type 0} (e : EvidenceGhosts L) (g : LedgerGhosts L) (n : ℕ) wher
     pub after : After e g n (noted x d) t
 
   module _ (d : List Deed) (s t : Survey L g e) (a : After e g n d s) where
-    pub next : (x : Event) → Extends e g s x t → Next a.most d x t
+    pub next : (x : Event) → Leads e g s x t → Next a.most d x t
     next x goes =
-        let run = goes a.start a.history a.run in
+        let run = step t x a.run goes in
         let law = a.lawful (x ∷ a.history) t run in
         record {
           refused = subst (λ k. Refused n a.most k x) a.did (law.refused x a.history ([], refl));
@@ -55,22 +56,22 @@ module _ {L : Type 0} (e : EvidenceGhosts L) (g : LedgerGhosts L) (n : ℕ) wher
         }
 
     -- an accepted profile or table left its bytes
-    pub profile_left : (p : Opening) (at k : ℕ) (old new : List ℕ) (given : Closing) → Extends e g s (WriteProfile p at old new (Ok (given, k))) t
+    pub profile_left : (p : Slip ForProfile) (at k : ℕ) (old new : List ℕ) (given : Slip ForTable) → Leads e g s (WriteProfile p at old new (Ok (given, k))) t
         → (text : List ℕ) × ProfileOf n d text × (k ≡ length text) × (new ≡ splice old at text)
     profile_left p at k old new given goes =
         subst (λ x. (text : List ℕ) × ProfileOf n x text × (k ≡ length text) × (new ≡ splice old at text)) a.did (
-        (a.lawful _ t (goes a.start a.history a.run)).profiles_written p at k old new given a.history ([], refl)
+        (a.lawful _ t (step t _ a.run goes)).profiles_written p at k old new given a.history ([], refl)
         )
 
-    pub table_left : (p : Closing) (at k : ℕ) (old new : List ℕ) → Extends e g s (WriteTable p at old new (Ok k)) t
+    pub table_left : (p : Slip ForTable) (at k : ℕ) (old new : List ℕ) → Leads e g s (WriteTable p at old new (Ok k)) t
         → (text : List ℕ) × TableOf n d text × (k ≡ length text) × (new ≡ splice old at text)
     table_left p at k old new goes =
         subst (λ x. (text : List ℕ) × TableOf n x text × (k ≡ length text) × (new ≡ splice old at text)) a.did (
-        (a.lawful _ t (goes a.start a.history a.run)).tables_written p at k old new a.history ([], refl)
+        (a.lawful _ t (step t _ a.run goes)).tables_written p at k old new a.history ([], refl)
         )
 
     -- a call whose questions are all answered yes, and the value that it owes
-    pub accepts : {A : Type 0} (call : Result A Refusal → Event) (r : Result A Refusal) (v : A) → Extends e g s (call r) t
+    pub accepts : {A : Type 0} (call : Result A Refusal → Event) (r : Result A Refusal) (v : A) → Leads e g s (call r) t
         → (Refused n a.most d (call r) → refusal r ≡ None)
         → (Answered n d (call r) → IfOk r (λ b. b ≡ v))
         → (r ≡ Ok v) × After e g n (noted (call (Ok v)) d) t

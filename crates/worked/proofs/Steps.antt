@@ -7,13 +7,14 @@ use Rattle.evidence.specs.declared.refusal.Refusal.{Refusal}
 use Rattle.evidence.specs.declared.refusal.Refusal.TheVariants.{WrongPaper}
 use Rattle.evidence.specs.Refusals.{first_no}
 use Rattle.files.specs.Writing.{splice}
-use Rattle.survey.specs.declared.opening.Opening.{Opening}
-use Rattle.survey.specs.declared.closing.Closing.{Closing}
+use Rattle.survey.specs.declared.slip.Slip.{Slip}
+use Rattle.survey.specs.declared.slip.ForProfile.{ForProfile}
+use Rattle.survey.specs.declared.slip.ForTable.{ForTable}
 use Rattle.survey.specs.declared.papers.Paper.{Paper}
 use Rattle.survey.specs.declared.survey.Survey.{Survey}
-use Rattle.survey.specs.Papers.{opening, closing}
+use Rattle.survey.specs.Slips.{slip}
 use Rattle.survey.specs.History.{Begin, WriteProfile, WriteTable, Withdraw, Deed, resolved, begun, profiled, tabled, withdrawn}
-use Rattle.survey.specs.Runs.{Extends}
+use Rattle.survey.specs.Runs.{Leads}
 use Rattle.survey.specs.Refusing.{right_opening, right_closing}
 use Rattle.worked.specs.After.{After}
 use Rattle.worked.specs.Deeds.{shared}
@@ -31,15 +32,15 @@ abbrev profile_deeds : List Deed
 profile_deeds = profiled ∷ open_deeds
 
 -- the papers of the first issue are right
-opens : (n : ℕ) (p : Opening) → p ≡ opening n 1 → right_opening n open_deeds p ≡ true
+opens : (n : ℕ) (p : Slip ForProfile) → p ≡ slip n 1 → right_opening n open_deeds p ≡ true
 opens n p is = ap (right_opening n open_deeds) is ∙ (let e = eq-eqb n n refl in rw e)
 
-closes : (n : ℕ) (p : Closing) → p ≡ closing n 1 → right_closing n profile_deeds p ≡ true
+closes : (n : ℕ) (p : Slip ForTable) → p ≡ slip n 1 → right_closing n profile_deeds p ≡ true
 closes n p is = ap (right_closing n profile_deeds) is ∙ (let e = eq-eqb n n refl in rw e)
 
 module _ {L : Type 0} (e : EvidenceGhosts L) (g : LedgerGhosts L) (s t : Survey L g e) where
   -- a right paper is not handed back
-  pub kept : (p back : Paper) (refusal : Refusal) → Rightful e g s p → Extends e g s (Withdraw p (Err (back, refusal))) t → ⊥
+  pub kept : (p back : Paper) (refusal : Refusal) → Rightful e g s p → Leads e g s (Withdraw p (Err (back, refusal))) t → ⊥
   kept p back refusal (n, d, a, is_right) goes =
       let q = (next e g n d s t a (Withdraw p (Err (back, refusal))) goes).refused ∙ ap (λ b. first_no ((b, WrongPaper) ∷ [])) is_right in
       let z : ◌≡◌ {A = ℕ} 0 1 = cc in
@@ -47,29 +48,29 @@ module _ {L : Type 0} (e : EvidenceGhosts L) (g : LedgerGhosts L) (s t : Survey 
 
   module _ (n : ℕ) where
     -- after a withdrawal no issue is open
-    pub withdrew : (d : List Deed) (p : Paper) (done : Unit {0}) → After e g n d s → Extends e g s (Withdraw p (Ok done)) t → Over e g n t
+    pub withdrew : (d : List Deed) (p : Paper) (done : Unit {0}) → After e g n d s → Leads e g s (Withdraw p (Ok done)) t → Over e g n t
     withdrew d p done a goes = (withdrawn ∷ d, (next e g n d s t a (Withdraw p (Ok done)) goes).after, refl)
 
     -- the issue is begun
-    pub began : (p : Opening) → After e g n (resolved ∷ shared) s → Extends e g s (Begin (Ok p)) t → (p ≡ opening n 1) × After e g n open_deeds t
+    pub began : (p : Slip ForProfile) → After e g n (resolved ∷ shared) s → Leads e g s (Begin (Ok p)) t → (p ≡ slip n 1) × After e g n open_deeds t
     began p a goes = let k = next e g n _ s t a (Begin (Ok p)) goes in (k.answered, k.after)
 
-    pub not_begun : (refusal : Refusal) → After e g n (resolved ∷ shared) s → Extends e g s (Begin (Err refusal)) t → ⊥
+    pub not_begun : (refusal : Refusal) → After e g n (resolved ∷ shared) s → Leads e g s (Begin (Err refusal)) t → ⊥
     not_begun refusal a goes =
         let q = (next e g n _ s t a (Begin (Err refusal)) goes).refused in
         let z : ◌≡◌ {A = ℕ} 0 1 = cc in
         omega arith
 
     -- What an accepted profile gave and left.
-    pub record Left (given : Closing) (k : ℕ) (old mid : List ℕ) : Type 0 where
-      pub paper : given ≡ closing n 1
+    pub record Left (given : Slip ForTable) (k : ℕ) (old mid : List ℕ) : Type 0 where
+      pub paper : given ≡ slip n 1
       pub after : After e g n profile_deeds t
       pub long : k ≡ length (profile_file n)
       pub room : length (profile_file n) ≤ length old
       pub holds : mid ≡ splice old 0 (profile_file n)
 
-    module _ (p : Opening) (old mid : List ℕ) (b : (p ≡ opening n 1) × After e g n open_deeds s) where
-      pub profile_written : (given : Closing) (k : ℕ) → Extends e g s (WriteProfile p 0 old mid (Ok (given, k))) t → Left given k old mid
+    module _ (p : Slip ForProfile) (old mid : List ℕ) (b : (p ≡ slip n 1) × After e g n open_deeds s) where
+      pub profile_written : (given : Slip ForTable) (k : ℕ) → Leads e g s (WriteProfile p 0 old mid (Ok (given, k))) t → Left given k old mid
       profile_written given k goes =
           let x = next e g n _ s t b.1 (WriteProfile p 0 old mid (Ok (given, k))) goes in
           let asked = x.refused in
@@ -85,7 +86,7 @@ module _ {L : Type 0} (e : EvidenceGhosts L) (g : LedgerGhosts L) (s t : Survey 
             holds = w.3 ∙ ap (splice old 0) file;
           }
 
-      pub profile_lacks : (back : Opening) (refusal : Refusal) → Extends e g s (WriteProfile p 0 old mid (Err (back, refusal))) t
+      pub profile_lacks : (back : Slip ForProfile) (refusal : Refusal) → Leads e g s (WriteProfile p 0 old mid (Err (back, refusal))) t
           → After e g n open_deeds t × (right_opening n open_deeds back ≡ true) × Issued n old mid (Err refusal)
       profile_lacks back refusal goes =
           let x = next e g n _ s t b.1 (WriteProfile p 0 old mid (Err (back, refusal))) goes in
@@ -98,8 +99,8 @@ module _ {L : Type 0} (e : EvidenceGhosts L) (g : LedgerGhosts L) (s t : Survey 
           )
 
 -- the table, right after the profile
-module _ {L : Type 0} (e : EvidenceGhosts L) (g : LedgerGhosts L) (r s t : Survey L g e) (n : ℕ) (p : Closing) (k : ℕ) (old mid new : List ℕ) (l : Left e g r s n p k old mid) where
-  pub table_written : (m : ℕ) → Extends e g s (WriteTable p k mid new (Ok m)) t → Issued n old new (Ok (record { profile = k; table = m })) × Over e g n t
+module _ {L : Type 0} (e : EvidenceGhosts L) (g : LedgerGhosts L) (r s t : Survey L g e) (n : ℕ) (p : Slip ForTable) (k : ℕ) (old mid new : List ℕ) (l : Left e g r s n p k old mid) where
+  pub table_written : (m : ℕ) → Leads e g s (WriteTable p k mid new (Ok m)) t → Issued n old new (Ok (record { profile = k; table = m })) × Over e g n t
   table_written m goes =
       let x = next e g n _ s t l.after (WriteTable p k mid new (Ok m)) goes in
       let asked = x.refused in
@@ -111,7 +112,7 @@ module _ {L : Type 0} (e : EvidenceGhosts L) (g : LedgerGhosts L) (r s t : Surve
         (tabled ∷ profile_deeds, x.after, refl),
       )
 
-  pub table_lacks : (back : Closing) (refusal : Refusal) → Extends e g s (WriteTable p k mid new (Err (back, refusal))) t
+  pub table_lacks : (back : Slip ForTable) (refusal : Refusal) → Leads e g s (WriteTable p k mid new (Err (back, refusal))) t
       → After e g n profile_deeds t × (right_closing n profile_deeds back ≡ true) × Issued n old new (Err refusal)
   table_lacks back refusal goes =
       let x = next e g n _ s t l.after (WriteTable p k mid new (Err (back, refusal))) goes in

@@ -4,7 +4,6 @@ use Rattle.std.proofs.lemmas.Bool.{lt-ltb}
 use Rattle.survey.specs.Views.{view}
 use Rattle.survey.proofs.Changed.{unchanged, enlisted}
 use Rattle.survey.proofs.Fits.{set_below}
-use Rattle.survey.proofs.Lawful.{goes_on}
 use Rattle.survey.proofs.survey.Survey.enlist.Goals as goal
 
 pub returns : goal.returns
@@ -13,8 +12,7 @@ returns g c =
     let a = c.in_ok-baseline.ensures in
     let wide = lt-ltb 0 c.args.span (omega arith) in
     let idle = sym c.is_idle.ensures ∙ c.if-not-is_idle.false in
-    let spans : (g.L.Evidence.meaning c.args.self.now.ledger).count < length c.args.self.now.spans = search rules in
-    goes_on g.L.Evidence g.L.Ledger _ _ _ (
+    let spans : (g.L.Evidence.meaning c.args.self.now.ledger).count < length c.args.self.now.spans = search rules in (
       rw (idle, wide) a.table.0,
       (a.table.1.number, enlisted v c.args.self.now.spans refl a.most _ _ a.table.1 spans),
     )
@@ -26,22 +24,15 @@ returns-in_err-baseline g c =
     let a = c.in_err-baseline.ensures in
     let wide = lt-ltb 0 c.args.span (omega arith) in
     let idle = sym c.is_idle.ensures ∙ c.if-not-is_idle.false in
-    rw (p.1, p.2) (goes_on g.L.Evidence g.L.Ledger _ _ _ (
+    rw (p.1, p.2) (
       rw (idle, wide) a.table.0,
       unchanged v c.args.self.now.spans refl a.most a.table.1,
-    ))
-
-pub returns-then-not-is_idle : goal.returns-then-not-is_idle
-returns-then-not-is_idle g c = goes_on g.L.Evidence g.L.Ledger _ _ _ (search rules)
-
-pub returns-then-span-eq0 : goal.returns-then-span-eq0
-returns-then-span-eq0 g c = goes_on g.L.Evidence g.L.Ledger _ _ _ (search rules)
+    )
 
 pub invariant_of-self-2 : goal.invariant_of-self-2
 invariant_of-self-2 g c =
     let s = c.args.self.now in
     record {
-      numbers = s.numbers;
+      small = s.small;
       lengths = set_below s.spans c.in_ok-baseline.baseline c.args.span 65536 s.lengths (search rules);
-      chips = s.chips;
     }

@@ -1,5 +1,4 @@
 use Rattle.std.proofs.Common.{ℕ, arith, rules}
-use Rattle.theory.specs.Record.{blank}
 use Rattle.survey.proofs.Fits.{copies}
 use Rattle.survey.proofs.Lawful.{opens}
 use Rattle.survey.proofs.survey.Survey.open.Goals as goal
@@ -8,8 +7,4 @@ pub returns : goal.returns
 returns g c = opens g.L.Evidence g.L.Ledger g.met.L.Evidence.sound c.args.number (g.L.Ledger.most c.args.ledger) _ (search rules)
 
 pub invariant_of-result : goal.invariant_of-result
-invariant_of-result g c = record {
-  numbers = (search rules, search rules);
-  lengths = λ i. rw (copies {A = ℕ} 64 i 0) (omega arith);
-  chips = λ i. rw (c.new.ensures, copies 64 i blank) (omega arith, omega arith);
-}
+invariant_of-result g c = record { small = search rules; lengths = λ i. rw (copies {A = ℕ} 64 i 0) (omega arith) }

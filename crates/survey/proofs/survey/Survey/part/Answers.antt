@@ -1,5 +1,0 @@
-use Rattle.survey.proofs.Lawful.{goes_on}
-use Rattle.survey.proofs.survey.Survey.part.Goals as goal
-
-pub returns : goal.returns
-returns g c = goes_on g.L.Evidence g.L.Ledger _ _ _ c.mark.ensures
