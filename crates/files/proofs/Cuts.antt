@@ -1,7 +1,8 @@
 -- The fields of a line, cut at its commas.
-use Rattle.std.proofs.Common.{◌≡◌, ℕ, suc, ◌+◌, ◌-◌, ◌<◌, Bool, true, false, cond, eqb, List, [], ◌∷◌, ◌++◌, length, get_or, take, drop, sym, refl, ap, ◌∙◌, arith}
-use Rattle.std.proofs.lemmas.List.{take-append-drop, drop_more, take_rest, get_or-take, length-take-le, length_push, get_or_push}
-use Rattle.std.proofs.lemmas.Bool.{eq-eqb, ne_eqb}
+use Rattle.std.proofs.Common.{◌≡◌, ℕ, suc, ◌+◌, ◌-◌, ◌<◌, Bool, true, false, cond, eqb, ◌==◌, count_by, List, [], ◌∷◌, ◌++◌, length, take, drop, sym, refl, ap, ◌∙◌, arith}
+use Rattle.std.proofs.lemmas.List.{take-append-drop, drop_more, take_rest, get_or-take, length-take-le}
+use Rattle.std.proofs.lemmas.Bool.{ne_eqb}
+use Rattle.std.proofs.lemmas.List.Recursion.{is_count_by}
 use Rattle.files.specs.Reading.{Lacks, FirstAt, fields, put_before}
 
 rest_lacks : (x : ℕ) (a : List ℕ) (b : ℕ) → Lacks b (x ∷ a) → Lacks b a
@@ -34,12 +35,6 @@ fields_at line i at =
     sym (take-append-drop i line) ∙ ap (λ (x : List ℕ). take i line ++ x) (rw at.here at (drop_more line i 0 at.within)) in
     rw (z, take_rest line (i + 1)) (ap fields whole ∙ fields_more (take i line) (drop (i + 1) line) lacks)
 
--- bytes that end in byte 10 have it last
-pub ended_last : (bytes line : List ℕ) → bytes ≡ line ++ (10 ∷ []) → (0 < length bytes) × (get_or bytes (length bytes - 1) 0 ≡ 10)
-ended_last bytes line e =
-    let long = ap length e ∙ length_push line 10 in
-    (omega arith, ap (λ (x : List ℕ). get_or x (length bytes - 1) 0) e ∙ get_or_push line 10 0 (length bytes - 1) (omega arith))
-
 -- a comma begins another field, and no other byte does
 length_put_before : (b : ℕ) (texts : List (List ℕ)) → 0 < length texts → length (put_before b texts) ≡ length texts
 unfolding put_before
@@ -55,10 +50,19 @@ fields_some (b ∷ line) = either (eqb b 44) (fields_some line)
     either true h = omega arith
     either false h = rw (length_put_before b (fields line) h) h
 
-pub length_at_comma : (b : ℕ) (line : List ℕ) → b ≡ 44 → length (fields (b ∷ line)) ≡ length (fields line) + 1
+fields_more_by : (b : ℕ) (line : List ℕ)
+    → length (fields (b ∷ line)) - 1 ≡ cond (b == 44) (1 + (length (fields line) - 1)) (length (fields line) - 1)
 unfolding fields
-length_at_comma b line e = let t = eq-eqb b 44 e in rw t (omega arith)
+fields_more_by b line = either (b == 44)
+  where
+    either : (comma : Bool)
+        → length (cond comma ([] ∷ fields line) (put_before b (fields line))) - 1 ≡ cond comma (1 + (length (fields line) - 1)) (length (fields line) - 1)
+    either true = omega (arith, fields_some line)
+    either false = ap (λ n. n - 1) (length_put_before b (fields line) (fields_some line))
 
-pub length_at_other : (b : ℕ) (line : List ℕ) → (b ≡ 44 → ⊥) → length (fields (b ∷ line)) ≡ length (fields line)
+-- so there is one field more than commas
+pub length_fields : (line : List ℕ) → length (fields line) ≡ count_by (λ b. b == 44) line + 1
 unfolding fields
-length_at_other b line ne = let f = ne_eqb b 44 ne in rw f (length_put_before b (fields line) (fields_some line))
+length_fields line =
+    let commas = is_count_by (λ l. length (fields l) - 1) (λ b. b == 44) refl fields_more_by line in
+    omega (arith, fields_some line)

@@ -6,7 +6,9 @@ use Rattle.theory.specs.Layout.{Ends, stands}
 use Rattle.theory.specs.Numbers.{baselines_from, baselines_at}
 use Rattle.theory.specs.Record.{ends_of}
 use Rattle.files.specs.declared.contents.Contents.{Contents}
-use Rattle.files.specs.Contents.{baselines_of, span_at, lens_of, imager_of}
+use Rattle.files.specs.declared.baseline.Baseline.{Baseline}
+use Rattle.files.specs.Baseline.{is_at, lens_at}
+use Rattle.files.specs.Contents.{baselines_of, span_at, baseline_of, lens_of, imager_of}
 use Rattle.files.specs.Each.{each}
 use Rattle.files.specs.Profile.{profile_lens}
 
@@ -43,3 +45,10 @@ joined_each f e a (suc n) =
 
 pub imager_each : (t : Contents) (a : ℕ) → imager_of t a ≡ each (lens_of t a) (baselines_of t)
 imager_each t a = joined_each (λ i. profile_lens a i (span_at t i)) (ends_of t.record.now) a (baselines_of t)
+
+-- the line of an imager for a baseline, where it is at it and where it is not
+pub lens_there : (t : Contents) (a i : ℕ) (b : Baseline) (has : Bool) → b ≡ baseline_of t i → has ≡ is_at a b → has ≡ true → lens_at a b ≡ lens_of t a i
+lens_there t a i b has e h there = let at : is_at a (baseline_of t i) ≡ true = cc in rw (e, at)
+
+pub lens_none : (t : Contents) (a i : ℕ) (b : Baseline) (has : Bool) → b ≡ baseline_of t i → has ≡ is_at a b → has ≡ false → [] ≡ lens_of t a i
+lens_none t a i b has e h none = let at : is_at a (baseline_of t i) ≡ false = cc in rw at

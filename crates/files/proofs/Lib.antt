@@ -1,11 +1,7 @@
--- Bytes written after one another.
-pub mod Splices
--- How many digits a number has.
-pub mod Digits
 -- A line up to one of its fields.
 pub mod Lines
--- The spans that are read of those that are told.
-pub mod Spans
+-- Texts told one after another.
+pub mod Told
 -- Texts in the order of their numbers.
 pub mod Rising
 -- The lines of an imager, baseline by baseline.

@@ -32,9 +32,9 @@ commas_front fields k =
     let whole = sym (map-append field_text (take k fields) (drop k fields)) ∙ ap (map field_text) (take-append-drop k fields) in
     omega (arith, ap (λ (x : List (List ℕ)). length (after_commas x)) whole, commas_append (map field_text (take k fields)) (map field_text (drop k fields)))
 
--- the fields up to one, with it
-pub commas_next : (fields : List Field) (k : ℕ) (d : Field) → k < length fields
-    → (length (commas (take k fields)) + 1) + length (field_text (get_or fields k d)) ≤ length (commas fields)
-commas_next fields k d h =
+-- a line up to one of its fields, with it
+pub field_within : (word : List ℕ) (fields : List Field) (k : ℕ) (d : Field) → k < length fields
+    → length (word ++ commas (take k fields)) + length (44 ∷ field_text (get_or fields k d)) ≤ length (line_of word fields)
+field_within word fields k d h =
     let more = ap length (commas_more fields k d h) ∙ length-append (commas (take k fields)) (44 ∷ field_text (get_or fields k d)) in
-    omega (arith, commas_front fields (k + 1))
+    omega (arith, length_line_of word fields, length-append word (commas (take k fields)), commas_front fields (k + 1))

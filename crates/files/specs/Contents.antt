@@ -1,7 +1,8 @@
 -- The files of what the code is told.
 use Rattle.std.specs.Prelude.{ℕ, Bool, cond, List, [], length, take, slice_index}
 use Rattle.theory.specs.Layout.{stands}
-use Rattle.theory.specs.Record.{ends_of, doubt_of}
+use Rattle.theory.specs.Record.{entry_of, ends_of, doubt_of}
+use Rattle.files.specs.declared.baseline.Baseline.{Baseline}
 use Rattle.files.specs.declared.contents.Contents.{Contents}
 use Rattle.files.specs.Profile.{profile_head, profile_lens, imager_lines, profile_bytes}
 use Rattle.files.specs.Table.{table_head, table_row, table_bytes}
@@ -17,6 +18,10 @@ baselines_of t = length (spans_of t)
 -- The span of baseline i.
 abbrev pub span_at : Contents → ℕ → ℕ
 span_at t i = slice_index (spans_of t) i
+
+-- What is told of baseline i.
+abbrev pub baseline_of : Contents → ℕ → Baseline
+baseline_of t i = record { number = i; span = span_at t i; entry = entry_of t.record.now i }
 
 -- The rectification table, its head and its rows.
 abbrev pub table_head_of : Contents → List ℕ

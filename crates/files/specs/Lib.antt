@@ -7,7 +7,12 @@ pub mod Profile
 pub mod Table
 -- what it is to write bytes into a buffer:
 pub mod Writing
+pub mod Splices
+pub mod Sink
+pub mod Tally
+pub mod Pen
 -- what the code is told, and what it writes as a field:
+pub mod Baseline
 pub mod Contents
 pub mod Field
 -- what is read out of bytes:

@@ -17,22 +17,14 @@ pub struct Fields<'a> {
 pub fn without_end(bytes: &[u8]) -> Option<&[u8]>
     ensures { MatchOption result (NotEnded bytes.now) (λ s. bytes.now ≡ s.now ++ (10 ∷ [])) }
 {
-    let [line @ .., last] = bytes else {
-        return None;
-    };
-    if *last == b'\n' { Some(line) } else { None }
+    bytes.strip_suffix(b"\n")
 }
 
 // The place of the first comma.
 fn comma(line: &[u8]) -> Option<usize>
     ensures { MatchOption result (Lacks 44 line.now) (FirstAt 44 line.now) }
 {
-    for (i, byte) in line.iter().enumerate() {
-        if *byte == b',' {
-            return Some(i);
-        }
-    }
-    None
+    line.iter().position(|byte| *byte == b',')
 }
 
 impl<'a> Fields<'a> {
@@ -74,11 +66,5 @@ impl<'a> Fields<'a> {
 pub fn field_count(line: &[u8]) -> usize
     ensures { result ≡ length (fields line.now) }
 {
-    let mut commas = 0;
-    for byte in line {
-        if *byte == b',' {
-            commas += 1;
-        }
-    }
-    commas + 1
+    line.iter().filter(|byte| **byte == b',').count() + 1
 }

@@ -2,15 +2,21 @@
 
 #![tactic(auto)]
 
-// Bytes put into a buffer, and whether there is room for them.
-mod put;
-mod room;
+// What takes a text byte by byte: one counts the bytes, one writes them.
+mod pen;
+mod sink;
+mod tally;
 
-// What is written: numbers, and lines of fields.
+// What has a text, and how that is measured and written.
+mod room;
+mod text;
+
+// Numbers, and lines of fields.
 mod line;
 mod number;
 
 // The files.
+mod baseline;
 mod contents;
 mod profile;
 mod table;

@@ -1,13 +1,12 @@
 //! A line in bytes: a word, and the fields after it.
 
-ghost use Rattle.std.specs.Prelude.{◌≡◌, ◌+◌, ◌*◌, ◌≤◌, length, take};
+ghost use Rattle.std.specs.Prelude.{◌≡◌, ◌+◌, ◌*◌, ◌≤◌, ◌∷◌, length, take};
 ghost use Rattle.files.specs.Field.{field_text, line_of};
 ghost use Rattle.files.specs.Forms.{mark_text};
-ghost use Rattle.files.specs.Writing.{Puts, Written};
+ghost use Rattle.files.specs.Writing.{Written};
 
-use super::number::{number_len, put_number};
-use super::put::{put_byte, put_bytes};
-use super::room::has_room;
+use super::sink::Sink;
+use super::text::{Text, write};
 use evidence::Refusal;
 
 /// A field after the word of a line.
@@ -29,70 +28,53 @@ impl Field {
         Field::Letter(if doubtful { b'D' } else { b'C' })
     }
 
-    // How many bytes the field has.
-    fn len(self) -> usize
-        ensures same { result ≡ length (field_text self) }
-        ensures few { result ≤ 5 }
+    // Tells a comma and the field.
+    fn tell_next<S: Sink>(&self, sink: &mut S)
+        requires { S.HasRoom sink.old (length (44 ∷ field_text self.now)) }
+        ensures told { S.Took sink.old (44 ∷ field_text self.now) sink.new }
+        ensures few { length (44 ∷ field_text self.now) ≤ 6 }
     {
-        match self {
-            Field::Number(n) => number_len(n),
-            Field::Span(span) => number_len(span),
-            Field::Letter(_) => 1,
+        sink.byte(b',');
+        self.tell(sink);
+    }
+}
+
+impl Text for Field {
+    ghost text = { field_text };
+
+    ghost most = { λ _. 5 };
+
+    fn tell<S: Sink>(&self, sink: &mut S) {
+        match *self {
+            Field::Number(n) | Field::Span(n) => n.tell(sink),
+            Field::Letter(byte) => sink.byte(byte),
         }
     }
+}
 
-    // Writes the field, and answers the place after it.
-    fn put(self, out: &mut [u8], at: usize) -> usize
-        requires { at + length (field_text self) ≤ length out.old }
-        ensures { Puts out.old out.new at result (field_text self) }
-    {
-        match self {
-            Field::Number(n) => put_number(out, at, n),
-            Field::Span(span) => put_number(out, at, span),
-            Field::Letter(byte) => put_byte(out, at, byte),
+// A line of a word and fields.
+#[derive(Clone, Copy)]
+pub(crate) struct Line<'a> {
+    pub(crate) word: &'a [u8],
+    pub(crate) fields: &'a [Field],
+}
+
+impl Text for Line<'_> {
+    ghost text = { λ line. line_of line.word.now line.fields.now };
+
+    ghost most = { λ line. length line.word.now + 1 + 6 * length line.fields.now };
+
+    fn tell<S: Sink>(&self, sink: &mut S) {
+        sink.bytes(self.word);
+        for field in self.fields {
+            field.tell_next(sink);
         }
+        sink.byte(b'\n');
     }
 }
 
 // How many fields of a line are written at most.
 const MOST_FIELDS: usize = 16;
-
-// How many bytes a line has.
-pub(crate) fn line_len(word: &[u8], fields: &[Field]) -> usize
-    requires { length fields.now ≤ 16 }
-    ensures same { result ≡ length (line_of word.now fields.now) }
-    ensures few { result ≤ length word.now + 1 + 6 * length fields.now }
-{
-    let mut bytes = word.len() + 1;
-    for field in fields {
-        bytes += 1 + field.len();
-    }
-    bytes
-}
-
-// Writes a line, and answers the place after it.
-pub(crate) fn put_line(out: &mut [u8], at: usize, word: &[u8], fields: &[Field]) -> usize
-    requires { at + length (line_of word.now fields.now) ≤ length out.old }
-    ensures { Puts out.old out.new at result (line_of word.now fields.now) }
-{
-    let mut end = put_bytes(out, at, word);
-    for field in fields {
-        let start = put_byte(out, end, b',');
-        end = field.put(out, start);
-    }
-    put_byte(out, end, b'\n')
-}
-
-// The fields that are written of those that are told.
-fn first_fields(fields: &[Field]) -> &[Field]
-    ensures { result.now ≡ take 16 fields.now }
-{
-    if fields.len() <= MOST_FIELDS {
-        fields
-    } else {
-        &fields[0..MOST_FIELDS]
-    }
-}
 
 /// Writes a line from `at` on, and answers how many bytes it has: the word, then each field after a comma, then byte 10.
 /// Fields past the 16th are not read, so the line has at most 97 bytes more than its word. Refused with 19 where the line
@@ -106,11 +88,6 @@ pub fn write_line(
     ensures written { Written (line_of word.now (take 16 fields.now)) out.old out.new at result }
     ensures short { length (line_of word.now (take 16 fields.now)) ≤ length word.now + 97 }
 {
-    let first = first_fields(fields);
-    let need = line_len(word, first);
-    if !has_room(out, at, need) {
-        return Err(Refusal::NoRoom(need));
-    }
-    put_line(out, at, word, first);
-    Ok(need)
+    let fields = &fields[..MOST_FIELDS.min(fields.len())];
+    write(&Line { word, fields }, out, at)
 }

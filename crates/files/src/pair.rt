@@ -6,7 +6,7 @@ ghost use Rattle.files.specs.Reading.{fields};
 use super::fields::Fields;
 
 /// The first wrong field of a line. The word has place 0.
-#[derive(Clone, Copy)]
+#[derive(Clone, Copy, PartialEq, Eq, Debug)]
 pub struct BadField {
     pub place: usize,
 }

@@ -6,5 +6,5 @@ ghost use Rattle.std.specs.Prelude.{◌≡◌, ◌+◌, length, nat_le};
 pub(crate) fn has_room(out: &[u8], at: usize, need: usize) -> bool
     ensures { result ≡ nat_le (at + need) (length out.now) }
 {
-    at <= out.len() && need <= out.len() - at
+    out.len().checked_sub(at).is_some_and(|room| need <= room)
 }

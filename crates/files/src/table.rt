@@ -1,35 +1,49 @@
 //! The rectification table.
 
-ghost use Rattle.std.specs.Prelude.{◌≡◌, ◌+◌, ◌≤◌, length};
+ghost use Rattle.std.specs.Prelude.{◌≡◌, ◌+◌, ◌*◌, length};
 ghost use Rattle.files.specs.Contents.{table_of};
-ghost use Rattle.files.specs.Writing.{Puts, Written};
+ghost use Rattle.files.specs.Writing.{Written};
 
 use super::contents::Contents;
-use super::line::{line_len, put_line};
-use super::room::has_room;
+use super::line::Line;
+use super::sink::Sink;
+use super::text::{Text, text_len, write};
 use evidence::Refusal;
+
+// The table's lines.
+#[derive(Clone, Copy)]
+struct Table<'a> {
+    contents: &'a Contents<'a>,
+}
+
+impl Text for Table<'_> {
+    ghost text = { λ table. table_of table.contents.now };
+
+    ghost most = { λ _. 32 + 64 * 32 };
+
+    fn tell<S: Sink>(&self, sink: &mut S) {
+        let fields = self.contents.table_head();
+        Line {
+            word: b"T",
+            fields: &fields,
+        }
+        .tell(sink);
+        for i in 0..self.contents.baselines() {
+            let fields = self.contents.baseline(i).row();
+            Line {
+                word: b"R",
+                fields: &fields,
+            }
+            .tell(sink);
+        }
+    }
+}
 
 /// How many bytes the rectification table has.
 pub fn table_len(contents: &Contents<'_>) -> usize
     ensures { result ≡ length (table_of contents.now) }
 {
-    let mut bytes = line_len(b"T", &contents.table_head());
-    for i in 0..contents.baselines() {
-        bytes += line_len(b"R", &contents.row(i));
-    }
-    bytes
-}
-
-// Writes the rectification table, and answers the place after it.
-fn put_table(out: &mut [u8], at: usize, contents: &Contents<'_>) -> usize
-    requires { at + length (table_of contents.now) ≤ length out.old }
-    ensures { Puts out.old out.new at result (table_of contents.now) }
-{
-    let mut end = put_line(out, at, b"T", &contents.table_head());
-    for baseline in 0..contents.baselines() {
-        end = put_line(out, end, b"R", &contents.row(baseline));
-    }
-    end
+    text_len(&Table { contents })
 }
 
 /// Writes the rectification table from `at` on, and answers how many bytes it has. Refused with 19 where it would pass the
@@ -37,10 +51,5 @@ fn put_table(out: &mut [u8], at: usize, contents: &Contents<'_>) -> usize
 pub fn write_table(contents: &Contents<'_>, out: &mut [u8], at: usize) -> Result<usize, Refusal>
     ensures { Written (table_of contents.now) out.old out.new at result }
 {
-    let need = table_len(contents);
-    if !has_room(out, at, need) {
-        return Err(Refusal::NoRoom(need));
-    }
-    put_table(out, at, contents);
-    Ok(need)
+    write(&Table { contents }, out, at)
 }

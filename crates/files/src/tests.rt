@@ -24,28 +24,26 @@ fn rig() -> Record {
     record
 }
 
-// What a writer answered: 0 and the length, or the refusal's number and detail.
-fn told(answer: Result<usize, Refusal>) -> (u8, usize) {
-    match answer {
-        Ok(length) => (0, length),
-        Err(refusal) => (refusal.number(), refusal.detail()),
+const SPANS: &[u16] = &[500, 620];
+
+// What the files of that rig tell.
+fn contents(record: &Record) -> Contents<'_> {
+    Contents {
+        survey: 1,
+        issue: 1,
+        imagers: 3,
+        spans: SPANS,
+        record,
     }
 }
 
 #[test]
 fn files_of_a_rig(rt: HostRuntime) {
     let record = rig();
-    let spans = [500, 620];
-    let contents = Contents {
-        survey: 1,
-        issue: 1,
-        imagers: 3,
-        spans: &spans,
-        record: &record,
-    };
+    let contents = contents(&record);
     let mut out = [7; 100];
-    assert_eq!(rt; told(write_profile(&contents, &mut out, 2)), (0, 48));
-    assert_eq!(rt; told(write_table(&contents, &mut out, 50)), (0, 36));
+    assert_eq!(rt; write_profile(&contents, &mut out, 2), Ok(48));
+    assert_eq!(rt; write_table(&contents, &mut out, 50), Ok(36));
     assert!(rt; out[0..2] == [7, 7]);
     assert!(rt; &out[2..50] == PROFILE);
     assert!(rt; &out[50..86] == TABLE);
@@ -55,21 +53,21 @@ fn files_of_a_rig(rt: HostRuntime) {
 #[test]
 fn no_room(rt: HostRuntime) {
     let record = rig();
-    let spans = [500, 620];
-    let contents = Contents {
-        survey: 1,
-        issue: 1,
-        imagers: 3,
-        spans: &spans,
-        record: &record,
-    };
+    let contents = contents(&record);
     let mut out = [7; 48];
-    assert_eq!(rt; told(write_profile(&contents, &mut out, 1)), (19, 48));
-    assert_eq!(rt; told(write_profile(&contents, &mut out, 49)), (19, 48));
     assert_eq!(rt;
-        told(write_table(&contents, &mut out, usize::MAX)),
-        (19, 36)
+        write_profile(&contents, &mut out, 1),
+        Err(Refusal::NoRoom(48))
     );
+    assert_eq!(rt;
+        write_profile(&contents, &mut out, 49),
+        Err(Refusal::NoRoom(48))
+    );
+    assert_eq!(rt;
+        write_table(&contents, &mut out, usize::MAX),
+        Err(Refusal::NoRoom(36))
+    );
+    assert_eq!(rt; Refusal::NoRoom(48).number(), 19);
     assert!(rt; out[0] == 7);
 }
 
@@ -83,18 +81,10 @@ fn numbers(rt: HostRuntime) {
     assert_eq!(rt; reads_back(620), Some(620));
 }
 
-// What is read of a line: the two numbers and 0, or the place of the first wrong field.
-fn pair_of(line: &[u8]) -> (u16, u16, usize) {
-    match read_pair(line) {
-        Ok((i, j)) => (i, j, 0),
-        Err(bad) => (0, 0, bad.place),
-    }
-}
-
 #[test]
 fn pairs(rt: HostRuntime) {
-    assert_eq!(rt; pair_of(b"share,3,41"), (3, 41, 0));
-    assert_eq!(rt; pair_of(b"share,3,007"), (0, 0, 2));
-    assert_eq!(rt; pair_of(b"share"), (0, 0, 1));
-    assert_eq!(rt; pair_of(b"share,3,41,"), (0, 0, 3));
+    assert_eq!(rt; read_pair(b"share,3,41"), Ok((3, 41)));
+    assert_eq!(rt; read_pair(b"share,3,007"), Err(BadField { place: 2 }));
+    assert_eq!(rt; read_pair(b"share"), Err(BadField { place: 1 }));
+    assert_eq!(rt; read_pair(b"share,3,41,"), Err(BadField { place: 3 }));
 }

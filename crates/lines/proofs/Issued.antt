@@ -2,7 +2,7 @@
 use Rattle.std.proofs.Common.{◌≡◌, ℕ, ◌+◌, ◌≤◌, List, [], ◌++◌, length, Some, Ok, refl, sym, ap, ◌∙◌, arith}
 use Rattle.std.specs.Option.{option_map_or}
 use Rattle.files.specs.Writing.{Puts}
-use Rattle.files.proofs.Splices.{puts_then}
+use Rattle.files.specs.Splices.{puts_then}
 use Rattle.survey.specs.declared.slip.Slip.{Slip}
 use Rattle.survey.specs.declared.slip.ForProfile.{ForProfile}
 use Rattle.survey.specs.declared.slip.ForTable.{ForTable}

@@ -5,7 +5,7 @@ use Rattle.evidence.specs.declared.refusal.Refusal.{Refusal}
 use Rattle.evidence.specs.declared.refusal.Refusal.TheVariants.{NoRoom}
 use Rattle.evidence.specs.Refusals.{first_no}
 use Rattle.files.specs.Writing.{splice}
-use Rattle.files.proofs.Splices.{puts_then}
+use Rattle.files.specs.Splices.{puts_then}
 use Rattle.survey.specs.Refusing.{asked_of_file}
 use Rattle.worked.specs.Files.{profile_file, table_file, begun_with, Issued}
 
