@@ -26,14 +26,13 @@ fields_more (x ∷ a) b h =
 
 -- the same at the place of the comma, the two parts as slices have them
 pub fields_at : (line : List ℕ) (i : ℕ) → FirstAt 44 line i
-    → fields line ≡ take (i - 0) line ∷ fields (take (length line - (i + 1)) (drop (i + 1) line))
+    → fields line ≡ take i line ∷ fields (take (length line - (i + 1)) (drop (i + 1) line))
 fields_at line i at =
-    let z : i - 0 ≡ i = omega arith in
     let long = length-take-le i line (omega (arith, at.within)) in
     let lacks : Lacks 44 (take i line) = λ k l q. at.first k (omega arith) (sym (get_or-take i line k 0 (omega arith)) ∙ q) in
     let whole : line ≡ take i line ++ (44 ∷ drop (i + 1) line) =
     sym (take-append-drop i line) ∙ ap (λ (x : List ℕ). take i line ++ x) (rw at.here at (drop_more line i 0 at.within)) in
-    rw (z, take_rest line (i + 1)) (ap fields whole ∙ fields_more (take i line) (drop (i + 1) line) lacks)
+    rw (take_rest line (i + 1)) (ap fields whole ∙ fields_more (take i line) (drop (i + 1) line) lacks)
 
 -- a comma begins another field, and no other byte does
 length_put_before : (b : ℕ) (texts : List (List ℕ)) → 0 < length texts → length (put_before b texts) ≡ length texts

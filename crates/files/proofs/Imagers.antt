@@ -1,7 +1,8 @@
 -- The lines of an imager, baseline by baseline.
-use Rattle.std.proofs.Common.{◌≡◌, ℕ, zero, suc, ◌+◌, Bool, true, false, cond, List, [], ◌∷◌, ◌++◌, sym, refl, ap, ◌∙◌, ap₂, append_assoc, arith}
+use Rattle.std.proofs.Common.{◌≡◌, ℕ, zero, suc, ◌+◌, Bool, true, false, cond, List, [], ◌∷◌, ◌++◌, refl, ap, ◌∙◌, ap₂, arith}
 use Rattle.std.specs.List.{flat_map}
 use Rattle.std.proofs.lemmas.List.{append-nil}
+use Rattle.std.proofs.lemmas.Grind.{flat_map-append}
 use Rattle.theory.specs.Layout.{Ends, stands}
 use Rattle.theory.specs.Numbers.{baselines_from, baselines_at}
 use Rattle.theory.specs.Record.{ends_of}
@@ -28,10 +29,6 @@ baselines_from_more e a i (suc n) =
 pub baselines_more : (e : ℕ → Ends) (a n : ℕ) → baselines_at (suc n) e a ≡ baselines_at n e a ++ cond (stands a (e n)) (n ∷ []) []
 baselines_more e a n = let z : 0 + n ≡ n = omega arith in rw z at (baselines_from_more e a 0 n)
 
-joined_append : (f : ℕ → List ℕ) (xs ys : List ℕ) → flat_map f (xs ++ ys) ≡ flat_map f xs ++ flat_map f ys
-joined_append f [] ys = refl
-joined_append f (x ∷ xs) ys = ap (λ (l : List ℕ). f x ++ l) (joined_append f xs ys) ∙ sym (append_assoc (f x) (flat_map f xs) (flat_map f ys))
-
 joined_cond : (f : ℕ → List ℕ) (b : Bool) (n : ℕ) → flat_map f (cond b (n ∷ []) []) ≡ cond b (f n) []
 joined_cond f true n = append-nil (f n)
 joined_cond f false n = refl
@@ -40,7 +37,7 @@ joined_cond f false n = refl
 pub joined_each : (f : ℕ → List ℕ) (e : ℕ → Ends) (a n : ℕ) → flat_map f (baselines_at n e a) ≡ each (λ i. cond (stands a (e i)) (f i) []) n
 joined_each f e a zero = refl
 joined_each f e a (suc n) =
-    ap (flat_map f) (baselines_more e a n) ∙ joined_append f (baselines_at n e a) _
+    ap (flat_map f) (baselines_more e a n) ∙ flat_map-append f (baselines_at n e a) _
     ∙ ap₂ (λ (x y : List ℕ). x ++ y) (joined_each f e a n) (joined_cond f (stands a (e n)) n)
 
 pub imager_each : (t : Contents) (a : ℕ) → imager_of t a ≡ each (lens_of t a) (baselines_of t)

@@ -1,9 +1,7 @@
 -- A line up to one of its fields.
 pub mod Lines
--- Texts told one after another.
+-- Texts told one after another, to any sink.
 pub mod Told
--- Texts in the order of their numbers.
-pub mod Rising
 -- The lines of an imager, baseline by baseline.
 pub mod Imagers
 -- The fields of a line, cut at its commas.

@@ -1,10 +1,10 @@
 -- A sink that writes.
 use Rattle.std.specs.Prelude.{◌≡◌, ℕ, ◌+◌, ◌≤◌, List, length}
-use Rattle.std.proofs.Common.{refl, ap, ◌∙◌, arith, length-append, length-take, length-drop}
-use Rattle.files.specs.Splices.{puts_then, puts_none}
+use Rattle.std.proofs.Common.{refl, ap, ◌∙◌, arith, length-append}
+use Rattle.files.specs.Splices.{length-splice, puts_then, puts_none}
 use Rattle.files.specs.declared.pen.Pen.{Pen}
 use Rattle.files.specs.Sink.{SinkLaws}
-use Rattle.files.specs.Writing.{splice, Puts}
+use Rattle.files.specs.Writing.{Puts}
 
 -- So many bytes are left of the buffer from the place on.
 abbrev pub pen_room : Pen → ℕ → Type 0
@@ -15,10 +15,6 @@ pub record Penned (s : Pen) (text : List ℕ) (t : Pen) : Type 0 where
   pub same : t.out.ghost_name ≡ s.out.ghost_name
   pub room : s.at + length text ≤ length s.out.now
   pub puts : Puts s.out.now t.out.now s.at t.at text
-
--- What is written over some of a buffer leaves it as long as it was.
-length-splice : (old : List ℕ) (at : ℕ) (text : List ℕ) → at + length text ≤ length old → length (splice old at text) ≡ length old
-length-splice old at text h = simp (length-append, length-take, length-drop) (omega arith)
 
 pub pen_laws : SinkLaws pen_room Penned
 pen_laws = record {

@@ -1,7 +1,11 @@
 -- Texts that are written into a buffer, one after another.
-use Rattle.std.proofs.Common.{◌≡◌, ℕ, ◌+◌, ◌≤◌, List, [], ◌++◌, length, ap, ◌∙◌, arith, rules}
+use Rattle.std.proofs.Common.{◌≡◌, ℕ, ◌+◌, ◌≤◌, List, [], ◌++◌, length, ap, ◌∙◌, arith, rules, length-take, length-drop}
 use Rattle.std.proofs.lemmas.List.{places, same_lists, length-append}
 use Rattle.files.specs.Writing.{splice, Puts}
+
+-- what is written over some of a buffer leaves it as long as it was
+pub length-splice : (old : List ℕ) (at : ℕ) (text : List ℕ) → at + length text ≤ length old → length (splice old at text) ≡ length old
+length-splice old at text h = simp (length-append, length-take, length-drop) (omega arith)
 
 -- a text written right after another is the two written as one
 splice_splice : (old : List ℕ) (at : ℕ) (s t : List ℕ) (n : ℕ) → n ≡ at + length s → n + length t ≤ length old

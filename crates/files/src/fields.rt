@@ -44,7 +44,7 @@ impl<'a> Fields<'a> {
         match comma(line) {
             Some(i) => {
                 self.rest = Some(&line[i + 1..]);
-                Some(&line[0..i])
+                Some(&line[..i])
             }
             None => {
                 self.rest = None;

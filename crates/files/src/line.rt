@@ -52,11 +52,24 @@ impl Text for Field {
     }
 }
 
+// Tells a line: its word, then each field after a comma, then byte 10.
+pub(crate) fn tell_line<S: Sink>(word: &[u8], fields: &[Field], sink: &mut S)
+    requires { S.HasRoom sink.old (length (line_of word.now fields.now)) }
+    ensures told { S.Took sink.old (line_of word.now fields.now) sink.new }
+    ensures few { length (line_of word.now fields.now) ≤ length word.now + 1 + 6 * length fields.now }
+{
+    sink.bytes(word);
+    for field in fields {
+        field.tell_next(sink);
+    }
+    sink.byte(b'\n');
+}
+
 // A line of a word and fields.
 #[derive(Clone, Copy)]
-pub(crate) struct Line<'a> {
-    pub(crate) word: &'a [u8],
-    pub(crate) fields: &'a [Field],
+struct Line<'a> {
+    word: &'a [u8],
+    fields: &'a [Field],
 }
 
 impl Text for Line<'_> {
@@ -65,11 +78,7 @@ impl Text for Line<'_> {
     ghost most = { λ line. length line.word.now + 1 + 6 * length line.fields.now };
 
     fn tell<S: Sink>(&self, sink: &mut S) {
-        sink.bytes(self.word);
-        for field in self.fields {
-            field.tell_next(sink);
-        }
-        sink.byte(b'\n');
+        tell_line(self.word, self.fields, sink);
     }
 }
 

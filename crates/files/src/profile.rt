@@ -5,7 +5,7 @@ ghost use Rattle.files.specs.Contents.{imager_of, profile_of};
 ghost use Rattle.files.specs.Writing.{Written};
 
 use super::contents::Contents;
-use super::line::Line;
+use super::line::tell_line;
 use super::sink::Sink;
 use super::text::{Text, text_len, write};
 use evidence::Refusal;
@@ -26,12 +26,7 @@ impl Text for Imager<'_> {
         for i in 0..self.contents.baselines() {
             let baseline = self.contents.baseline(i);
             if baseline.has(self.number) {
-                let fields = baseline.lens(self.number);
-                Line {
-                    word: b"L",
-                    fields: &fields,
-                }
-                .tell(sink);
+                tell_line(b"L", &baseline.lens(self.number), sink);
             }
         }
     }
@@ -49,12 +44,7 @@ impl Text for Profile<'_> {
     ghost most = { λ _. 32 + 2048 * 255 };
 
     fn tell<S: Sink>(&self, sink: &mut S) {
-        let fields = self.contents.profile_head();
-        Line {
-            word: b"P",
-            fields: &fields,
-        }
-        .tell(sink);
+        tell_line(b"P", &self.contents.profile_head(), sink);
         for number in 0..self.contents.imagers {
             Imager {
                 contents: self.contents,

@@ -5,7 +5,7 @@ ghost use Rattle.files.specs.Contents.{table_of};
 ghost use Rattle.files.specs.Writing.{Written};
 
 use super::contents::Contents;
-use super::line::Line;
+use super::line::tell_line;
 use super::sink::Sink;
 use super::text::{Text, text_len, write};
 use evidence::Refusal;
@@ -22,19 +22,9 @@ impl Text for Table<'_> {
     ghost most = { λ _. 32 + 64 * 32 };
 
     fn tell<S: Sink>(&self, sink: &mut S) {
-        let fields = self.contents.table_head();
-        Line {
-            word: b"T",
-            fields: &fields,
-        }
-        .tell(sink);
+        tell_line(b"T", &self.contents.table_head(), sink);
         for i in 0..self.contents.baselines() {
-            let fields = self.contents.baseline(i).row();
-            Line {
-                word: b"R",
-                fields: &fields,
-            }
-            .tell(sink);
+            tell_line(b"R", &self.contents.baseline(i).row(), sink);
         }
     }
 }
