@@ -1,13 +1,7 @@
 -- The fields of a line of a word and two numbers.
-use Rattle.std.proofs.Common.{◌≡◌, ℕ, false, List, [], ◌∷◌, get_or, drop, is_some, Some, None, decimal, Option, refl, MatchOption}
-use Rattle.std.proofs.lemmas.Bool.{false≢true}
+use Rattle.std.proofs.Common.{◌≡◌, ℕ, List, [], ◌∷◌, get_or, drop, decimal, refl}
 use Rattle.files.specs.Reading.{Spells}
 use Rattle.files.proofs.Spelled.{not_empty}
-
--- what holds where nothing is handed out
-pub at_none : {X : Type 0} (o : Option X) (P : Type 0) (Q : X → Type 0) → false ≡ is_some o → MatchOption o P Q → P
-at_none None P Q e h = h
-at_none (Some x) P Q e h = absurd (false≢true e)
 
 -- a word, two numbers and nothing more
 pub pair_texts : (texts : List (List ℕ)) (i j : ℕ) → Spells (get_or (drop 1 texts) 0 []) i → Spells (get_or (drop 1 (drop 1 texts)) 0 []) j

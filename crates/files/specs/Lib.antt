@@ -7,9 +7,10 @@ pub mod Profile
 pub mod Table
 -- what it is to write bytes into a buffer:
 pub mod Writing
-pub mod Splices
+-- what takes a text byte by byte, one that counts and one that writes, and that both keep the laws:
 pub mod Sink
 pub mod Tally
+pub mod Splices
 pub mod Pen
 -- what the code is told, and what it writes as a field:
 pub mod Baseline

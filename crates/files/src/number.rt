@@ -1,9 +1,9 @@
 //! A number in bytes: its decimal digits, with no leading zero.
 
-ghost use Rattle.std.specs.Prelude.{◌≡◌, ◌+◌, ◌-◌, ◌<◌, ◌≤◌, length, Some, decimal, IsTrue, ◌↔◌, ◌⊎◌, MatchOption, slice_index};
+ghost use Rattle.std.specs.Prelude.{◌≡◌, ◌-◌, ◌<◌, ◌≤◌, length, Some, decimal, IsTrue, ◌↔◌, ◌⊎◌, MatchOption, slice_index};
 ghost use Rattle.std.specs.Int.{IsInRange};
 ghost use Rattle.files.specs.Reading.{Spells, NotNumber};
-ghost use Rattle.files.specs.Writing.{Puts, Written};
+ghost use Rattle.files.specs.Writing.{Written};
 
 use super::sink::Sink;
 use super::text::{Text, text_len, write};

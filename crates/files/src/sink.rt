@@ -8,7 +8,7 @@ pub(crate) trait Sink {
     // Whether there is room for so many bytes.
     ghost HasRoom: { Self → ℕ → Type 0 };
 
-    // Whether a text that it took made one of another.
+    // Whether a text, taken, turns one into another.
     ghost Took: { Self → List ℕ → Self → Type 0 };
 
     // What each kind must prove.

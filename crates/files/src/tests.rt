@@ -8,6 +8,8 @@ const PROFILE: &[u8] = b"P,1,1,3\nL,0,0,500\nL,0,1,620\nL,1,0,500\nL,2,1,620\n";
 
 const TABLE: &[u8] = b"T,1,1,2\nR,0,0,1,500,C\nR,1,0,2,620,C\n";
 
+const SPANS: &[u16] = &[500, 620];
+
 // Two baselines that share imager 0.
 fn rig() -> Record {
     let mut record = Record::new();
@@ -23,8 +25,6 @@ fn rig() -> Record {
     };
     record
 }
-
-const SPANS: &[u16] = &[500, 620];
 
 // What the files of that rig tell.
 fn contents(record: &Record) -> Contents<'_> {
