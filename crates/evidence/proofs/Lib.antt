@@ -7,5 +7,5 @@ pub mod Ranges
 -- How the number of sharing pairs changes, and how a changed table stays sound.
 pub mod PairCounts
 pub mod Puts
--- The first question that `grow` and `set` answer no.
+-- What the last question of `set` answers.
 pub mod Questions

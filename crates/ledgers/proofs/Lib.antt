@@ -4,4 +4,3 @@ pub mod Sets
 -- What a write leaves of a grid, and of a list.
 pub mod Grids
 pub mod Listed
-pub mod Tests

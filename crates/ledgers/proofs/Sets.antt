@@ -1,11 +1,19 @@
 -- What `set` answers of a pair, by the state that the pair has.
-use Rattle.std.proofs.Common.{◌≡◌, ℕ, ◌<◌, ◌≤◌, Bool, true, false, cond, Ok, Err, refl, inl, inr}
+use Rattle.std.proofs.Common.{◌≡◌, ℕ, ◌<◌, ◌≤◌, Bool, true, false, cond, not, Ok, Err, sym, refl, inl, inr}
+use mathlib.Core.Bool.{beq}
 use Rattle.evidence.specs.declared.refusal.Refusal.TheVariants.{ManyPairs}
 use Rattle.evidence.specs.Table.{Table, Sound}
 use Rattle.evidence.specs.Pairs.{pairs}
 use Rattle.evidence.specs.Changes.{is_pair, Set}
 use Rattle.evidence.proofs.Puts.{put_same}
 use Rattle.evidence.proofs.Questions.{set_many, set_room}
+
+-- a state that is not the wanted one is the other
+pub beq_other : (has on : Bool) → beq has on ≡ false → has ≡ not on
+beq_other true true h = h
+beq_other true false h = refl
+beq_other false true h = refl
+beq_other false false h = sym h
 
 -- what `ask_pair` tells of two numbers that it admits
 abbrev pub Pair : ℕ → ℕ → ℕ → Type 0

@@ -38,10 +38,9 @@ impl PairList {
     fn find(&self, i: usize, j: usize) -> Option<usize>
         ensures { result ≡ position (hit i j) self.now.entries.items }
     {
-        self.entries.iter().position(|entry| {
-            let p = usize::from(entry.0);
-            let q = usize::from(entry.1);
-            ((p == i) & (q == j)) | ((p == j) & (q == i))
+        self.entries.iter().position(|&(p, q)| {
+            let entry = (usize::from(p), usize::from(q));
+            entry == (i, j) || entry == (j, i)
         })
     }
 }

@@ -1,7 +1,7 @@
 use Rattle.std.proofs.Common.{not, sym, ap, ◌∙◌, rules, arith}
 use Rattle.evidence.proofs.PairCounts.{one_if}
 use Rattle.ledgers.proofs.Grids.{written_pairs, written_kept}
-use Rattle.ledgers.proofs.Tests.{beq_other}
+use Rattle.ledgers.proofs.Sets.{beq_other}
 use Rattle.ledgers.proofs.word_grid.WordGridLedger.set.Goals as goal
 use Rattle.ledgers.proofs.word_grid.WordGridLedger.set.Goals.{then-on-2, else-on-2}
 
