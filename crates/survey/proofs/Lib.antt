@@ -6,6 +6,7 @@ pub mod Changed
 -- What the files of an issue tell.
 pub mod Spans
 pub mod Fits
+pub mod Counts
 -- The stages of an issue.
 pub mod Stages
 -- What a history tells of a survey.

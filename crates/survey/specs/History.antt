@@ -110,17 +110,6 @@ is_resolved (profiled ∷ d) = is_resolved d
 is_resolved (tabled ∷ d) = is_resolved d
 is_resolved (withdrawn ∷ d) = is_resolved d
 
--- A resolve was accepted.
-abbrev pub ever_resolved : List Deed → Bool
-ever_resolved [] = false
-ever_resolved (enlisted span ∷ d) = ever_resolved d
-ever_resolved (marked i j on changed ∷ d) = ever_resolved d
-ever_resolved (resolved ∷ d) = true
-ever_resolved (begun ∷ d) = ever_resolved d
-ever_resolved (profiled ∷ d) = ever_resolved d
-ever_resolved (tabled ∷ d) = ever_resolved d
-ever_resolved (withdrawn ∷ d) = ever_resolved d
-
 -- What was done before the latest accepted resolve.
 abbrev pub before_resolve : List Deed → List Deed
 before_resolve [] = []

@@ -1,5 +1,5 @@
 -- The questions that each call asks, in their order, put to what can be told of the survey.
-use Rattle.std.specs.Prelude.{◌≡◌, ℕ, ◌+◌, Bool, not, ◌&&◌, List, [], ◌∷◌, length, Some, None, Ok, Err, Result, ◌==◌, nat_le, nat_lt}
+use Rattle.std.specs.Prelude.{◌≡◌, ℕ, ◌+◌, Bool, not, ◌&&◌, List, [], ◌∷◌, ◌++◌, length, Some, None, Ok, Err, Result, ◌==◌, nat_le, nat_lt}
 use Rattle.evidence.specs.declared.refusal.Refusal.{Refusal}
 use Rattle.evidence.specs.declared.refusal.Refusal.TheVariants.{IssueOpen, NoSpan, PastCount, SameBaseline, Unresolved, ManyIssues, WrongPaper, NoRoom}
 use Rattle.evidence.specs.Refusals.{Question, first_no}
@@ -38,9 +38,8 @@ withdraw_questions v p = (admits v p, WrongPaper) ∷ []
 abbrev pub one_questions : View → ℕ → List Question
 one_questions v i = (nat_lt i v.table.count, PastCount) ∷ (has_layout v.state, Unresolved) ∷ []
 
+abbrev pub pair_questions : ℕ → ℕ → ℕ → List Question
+pair_questions count i j = (nat_lt i count && nat_lt j count, PastCount) ∷ (not (i == j), SameBaseline) ∷ []
+
 abbrev pub two_questions : View → ℕ → ℕ → List Question
-two_questions v i j =
-    (nat_lt i v.table.count && nat_lt j v.table.count, PastCount)
-    ∷ (not (i == j), SameBaseline)
-    ∷ (has_layout v.state, Unresolved)
-    ∷ []
+two_questions v i j = pair_questions v.table.count i j ++ ((has_layout v.state, Unresolved) ∷ [])

@@ -1,6 +1,7 @@
 //! What a resolved survey tells of its baselines.
 
 ghost use Rattle.std.specs.Prelude.{◌≡◌};
+ghost use Rattle.survey.specs.Questions.{Answers, pair_questions};
 ghost use Rattle.survey.specs.Told.{EntryTold, together};
 ghost use Rattle.survey.specs.History.{AskEnds, AskCommon, AskDoubt};
 ghost use Rattle.survey.specs.Runs.{Leads};
@@ -26,13 +27,7 @@ impl<L: Ledger> Survey<L> {
     pub fn common(&self, i: usize, j: usize) -> Result<Option<u8>, Refusal>
         ensures { Leads L.Evidence L.Ledger.own self.now (AskCommon i j result) self.now }
     {
-        let count = self.ledger.count();
-        if i >= count || j >= count {
-            return Err(Refusal::PastCount);
-        }
-        if i == j {
-            return Err(Refusal::SameBaseline);
-        }
+        are_two(i, j, self.ledger.count())?;
         Ok(together(self.entry_of(i)?, self.entry_of(j)?))
     }
 
@@ -51,13 +46,26 @@ impl<L: Ledger> Survey<L> {
         if i >= self.ledger.count() {
             return Err(Refusal::PastCount);
         }
-        match self.state {
+        match &self.state {
             State::Unresolved => Err(Refusal::Unresolved),
             State::Resolved(layout) | State::Begun(layout) | State::Profiled(layout) => {
                 Ok(layout.record.entries[i])
             }
         }
     }
+}
+
+// Are these the numbers of two baselines?
+fn are_two(i: usize, j: usize, count: usize) -> Result<(), Refusal>
+    ensures { Answers (pair_questions count i j) (λ done. Unit {0}) (Unit {0}) result }
+{
+    if i >= count || j >= count {
+        return Err(Refusal::PastCount);
+    }
+    if i == j {
+        return Err(Refusal::SameBaseline);
+    }
+    Ok(())
 }
 
 // The imager that two baselines have together.

@@ -104,9 +104,9 @@ impl<L: Ledger> Survey<L> {
     fn admitted(&self, paper: &Paper) -> Option<Layout>
         ensures { result ≡ cond (admits (view L.Evidence L.Ledger.own self.now) paper.now) (layout_of self.now.state) None }
     {
-        match (paper, self.state) {
-            (Paper::Opens(slip), State::Begun(layout)) if self.is_latest(slip) => Some(layout),
-            (Paper::Closes(slip), State::Profiled(layout)) if self.is_latest(slip) => Some(layout),
+        match (paper, &self.state) {
+            (Paper::Opens(slip), State::Begun(layout)) if self.is_latest(slip) => Some(*layout),
+            (Paper::Closes(slip), State::Profiled(layout)) if self.is_latest(slip) => Some(*layout),
             _ => None,
         }
     }

@@ -39,11 +39,8 @@ fn count_doubtful(told: &Record, count: usize) -> usize
     ensures same { result ≡ how_many (doubt_of told.now) count }
     ensures few { result ≤ count }
 {
-    let mut doubtful = 0;
-    for i in 0..count {
-        if told.entries[i].doubtful {
-            doubtful += 1;
-        }
-    }
-    doubtful
+    told.entries[..count]
+        .iter()
+        .filter(|entry| entry.doubtful)
+        .count()
 }
