@@ -1,6 +1,5 @@
 -- What the calls that change a ledger make of the view.
-use Rattle.std.proofs.Common.{◌≡◌, ℕ, ◌+◌, ◌<◌, Bool, cond, List, [], ◌∷◌, ◌++◌, length, take, set, sym, refl, ap, ◌∙◌}
-use Rattle.std.proofs.lemmas.List.{take_more_set}
+use Rattle.std.proofs.Common.{◌≡◌, ℕ, Bool, cond, List, [], ◌∷◌, ◌++◌, refl, ap, ◌∙◌}
 use Rattle.evidence.specs.Table.{Table}
 use Rattle.evidence.specs.Changes.{Same, Added, Put}
 use Rattle.survey.specs.declared.state.State.{State}
@@ -16,23 +15,16 @@ with v table most spans state = record { number = v.number; table = table; most 
 pub with_path : (v : View) {t u : Table} {m n : ℕ} {xs ys : List ℕ} {a b : State} → t ≡ u → m ≡ n → xs ≡ ys → a ≡ b → with v t m xs a ≡ with v u n ys b
 with_path v p q r s = λ x. with v (p x) (q x) (r x) (s x)
 
-module _ (v : View) (spans : List ℕ) (are : v.spans ≡ take v.table.count spans) {u : Table} {most : ℕ} (room : most ≡ v.most) where
+module _ (v : View) {u : Table} {most : ℕ} (room : most ≡ v.most) where
   -- nothing changed
-  pub unchanged : Same v.table u → with v u most (take u.count spans) v.state ≡ v
-  unchanged s = with_path v (same_table s) room (ap (λ n. take n spans) s.count ∙ sym are) refl
+  pub unchanged : Same v.table u → with v u most v.spans v.state ≡ v
+  unchanged s = with_path v (same_table s) room refl refl
 
   -- one baseline more
-  pub enlisted : (n span : ℕ) → Added v.table u n → v.table.count < length spans
-      → with v u most (take u.count (set spans n span)) Unresolved ≡ with_baseline v span
-  enlisted n span a h =
-      with_path v (added_table a) room
-      (ap (λ k. take k (set spans n span)) a.count
-      ∙ ap (λ k. take (v.table.count + 1) (set spans k span)) a.number
-      ∙ take_more_set spans v.table.count span h
-      ∙ ap (λ xs. xs ++ (span ∷ [])) (sym are)) refl
+  pub enlisted : (span : ℕ) {n : ℕ} {spans : List ℕ} → Added v.table u n → spans ≡ v.spans ++ (span ∷ []) → with v u most spans Unresolved ≡ with_baseline v span
+  enlisted span a more = with_path v (added_table a) room more refl
 
   -- one pair set
   pub marked : (i j : ℕ) (on changed : Bool) (state : State) → Put v.table u i j on changed → state ≡ cond changed Unresolved v.state
-      → with v u most (take u.count spans) state ≡ with_mark v i j on
-  marked i j on changed state p e =
-      with_path v (put_table p) room (ap (λ n. take n spans) p.count ∙ sym are) (e ∙ ap (λ b. cond b Unresolved v.state) p.told)
+      → with v u most v.spans state ≡ with_mark v i j on
+  marked i j on changed state p e = with_path v (put_table p) room refl (e ∙ ap (λ b. cond b Unresolved v.state) p.told)

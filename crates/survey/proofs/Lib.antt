@@ -3,11 +3,10 @@ pub mod Yes
 -- Tables that say the same are the same, and what the calls make of a view.
 pub mod Tables
 pub mod Changed
--- What the files of an issue tell.
-pub mod Spans
-pub mod Fits
+-- How many baselines are doubtful.
 pub mod Counts
--- The stages of an issue.
+-- The files of an issue, and its stages.
+pub mod Fits
 pub mod Stages
 -- What a history tells of a survey.
 pub mod Stands

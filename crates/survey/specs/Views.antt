@@ -1,5 +1,5 @@
 -- What can be told of a survey, whatever its ledger.
-use Rattle.std.specs.Prelude.{◌≡◌, ℕ, Bool, true, false, List, [], take, Some, None, Option, is_some, IsSomeAnd}
+use Rattle.std.specs.Prelude.{◌≡◌, ℕ, Bool, true, false, List, [], Some, None, Option, is_some, IsSomeAnd}
 use Rattle.evidence.specs.Table.{Table}
 use Rattle.evidence.specs.declared.evidence.Evidence.{Ghosts as EvidenceGhosts}
 use Rattle.evidence.specs.declared.ledger.Ledger.{Ghosts as LedgerGhosts}
@@ -24,7 +24,7 @@ module _ {L : Type 0} (e : EvidenceGhosts L) (g : LedgerGhosts L) where
     number = s.number;
     table = e.meaning s.ledger;
     most = g.most s.ledger;
-    spans = take (e.meaning s.ledger).count s.spans;
+    spans = s.spans.items;
     state = s.state;
     begun = s.begun;
   }

@@ -123,12 +123,11 @@ impl<L: Ledger> Survey<L> {
         ensures profile { profile_of result ≡ profile_by (view L.Evidence L.Ledger.own self.now) layout.now }
         ensures table { table_of result ≡ table_by (view L.Evidence L.Ledger.own self.now) layout.now }
     {
-        let count = self.ledger.count();
         Contents {
             survey: self.number,
             issue: self.begun,
             imagers: layout.imagers,
-            spans: &self.spans[0..count],
+            spans: self.spans.as_slice(),
             record: &layout.record,
         }
     }

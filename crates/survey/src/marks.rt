@@ -23,7 +23,7 @@ impl<L: Ledger> Survey<L> {
             return Err(Refusal::NoSpan);
         }
         let baseline = self.ledger.grow()?;
-        self.spans[baseline] = span;
+        self.spans.push(span);
         self.state = State::Unresolved;
         Ok(baseline)
     }

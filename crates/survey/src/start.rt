@@ -6,6 +6,7 @@ ghost use Rattle.survey.specs.Views.{view, idle, Fresh};
 
 use super::state::State;
 use super::survey::Survey;
+use arrayvec::ArrayVec;
 use evidence::Ledger;
 
 impl<L: Ledger> Survey<L> {
@@ -20,7 +21,7 @@ impl<L: Ledger> Survey<L> {
         Survey {
             number,
             ledger,
-            spans: [0; 64],
+            spans: ArrayVec::new(),
             state: State::Unresolved,
             begun: 0,
         }

@@ -15,7 +15,7 @@ pub struct Layout {
     ghost chips: { (i : ℕ) → ((ends_of «record» i).0 < 256) × ((ends_of «record» i).1 < 256) },
 }
 
-/// How far a survey has come. Only a survey that is resolved has a layout, and only that of a layout has an issue.
+/// How far a survey has come. It has a layout just while it is resolved, and an issue is open only of a layout.
 #[derive(Clone, Copy)]
 pub enum State {
     /// The survey is not resolved.

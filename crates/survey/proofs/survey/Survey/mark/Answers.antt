@@ -1,4 +1,4 @@
-use Rattle.std.proofs.Common.{cond, sym, refl, ap, ◌∙◌}
+use Rattle.std.proofs.Common.{cond, sym, ap, ◌∙◌}
 use Rattle.std.proofs.lemmas.Result.{err_from_is_err_and}
 use Rattle.survey.specs.declared.state.State.TheVariants.{Unresolved}
 use Rattle.survey.specs.Views.{view}
@@ -11,7 +11,7 @@ returns-then-changed g c =
     let a = c.in_ok-changed.ensures in
     let idle = sym c.is_idle.ensures ∙ c.if-not-is_idle.false in (
       rw idle a.table.0,
-      (a.table.1.told, marked v c.args.self.now.spans refl a.most c.args.i c.args.j c.args.on _ _ a.table.1 (sym (ap (λ b. cond b Unresolved v.state) c.if-changed.true))),
+      (a.table.1.told, marked v a.most c.args.i c.args.j c.args.on _ _ a.table.1 (sym (ap (λ b. cond b Unresolved v.state) c.if-changed.true))),
     )
 
 pub returns-else-changed : goal.returns-else-changed
@@ -20,7 +20,7 @@ returns-else-changed g c =
     let a = c.in_ok-changed.ensures in
     let idle = sym c.is_idle.ensures ∙ c.if-not-is_idle.false in (
       rw idle a.table.0,
-      (a.table.1.told, marked v c.args.self.now.spans refl a.most c.args.i c.args.j c.args.on _ _ a.table.1 (sym (ap (λ b. cond b Unresolved v.state) c.if-changed.false))),
+      (a.table.1.told, marked v a.most c.args.i c.args.j c.args.on _ _ a.table.1 (sym (ap (λ b. cond b Unresolved v.state) c.if-changed.false))),
     )
 
 pub returns-in_err-changed : goal.returns-in_err-changed
@@ -31,5 +31,5 @@ returns-in_err-changed g c =
     let idle = sym c.is_idle.ensures ∙ c.if-not-is_idle.false in
     rw (p.1, p.2) (
       rw idle a.table.0,
-      unchanged v c.args.self.now.spans refl a.most a.table.1,
+      unchanged v a.most a.table.1,
     )
