@@ -1,8 +1,7 @@
 use Rattle.std.proofs.Common.{refl, rules}
 use Rattle.std.proofs.lemmas.Result.{err_from_is_err_and}
 use Rattle.files.specs.Reading.{fields}
-use Rattle.lines.specs.declared.word.Word.TheVariants.{Enlist, Share, Part}
-use Rattle.lines.proofs.Asked.{line_of_fields, one_field, two_fields, pair_fields, wrong_of_pair, wrong_of_one, wrong_number}
+use Rattle.lines.proofs.Asked.{line_of_fields, one_field, two_fields, pair_fields}
 use Rattle.lines.proofs.request.read_request.Goals as goal
 
 pub returns-in-Resolve : goal.returns-in-Resolve
@@ -31,27 +30,3 @@ returns-in_err-word c =
     let text = c.in-Some.text.now in
     let fault = c.in_err-word.ensures in
     rw (p.1, p.2, fault.0) (fields text, (text, c.in-Some.ensures, refl), fault.1)
-
-pub returns-in_err-read_span-in-Enlist : goal.returns-in_err-read_span-in-Enlist
-returns-in_err-read_span-in-Enlist c =
-    let p = err_from_is_err_and c.from_residual-in_err-read_span-in-Enlist.result c.from_residual-in_err-read_span-in-Enlist.ensures.1 in
-    let text = c.in-Some.text.now in
-    rw (p.1, p.2) (
-    wrong_number _ text Enlist _ c.in-Some.ensures (search rules) (search rules) (wrong_of_one (fields text) _ (search rules) c.in_err-read_span-in-Enlist.ensures)
-    )
-
-pub returns-in_err-i-in-Share : goal.returns-in_err-i-in-Share
-returns-in_err-i-in-Share c =
-    let p = err_from_is_err_and c.from_residual-in_err-i-in-Share.result c.from_residual-in_err-i-in-Share.ensures.1 in
-    let text = c.in-Some.text.now in
-    rw (p.1, p.2) (
-    wrong_number _ text Share _ c.in-Some.ensures (search rules) (search rules) (wrong_of_pair (fields text) _ (search rules) c.in_err-i-in-Share.ensures)
-    )
-
-pub returns-in_err-i-in-Part : goal.returns-in_err-i-in-Part
-returns-in_err-i-in-Part c =
-    let p = err_from_is_err_and c.from_residual-in_err-i-in-Part.result c.from_residual-in_err-i-in-Part.ensures.1 in
-    let text = c.in-Some.text.now in
-    rw (p.1, p.2) (
-    wrong_number _ text Part _ c.in-Some.ensures (search rules) (search rules) (wrong_of_pair (fields text) _ (search rules) c.in_err-i-in-Part.ensures)
-    )
