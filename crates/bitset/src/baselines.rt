@@ -1,6 +1,6 @@
 //! The members of a set, one after the other.
 
-ghost use Rattle.std.specs.Prelude.{◌≡◌};
+ghost use Rattle.std.specs.Prelude.{◌≡◌, ◌^◌, ◌<◌};
 ghost use Rattle.std.specs.Iterator.{YieldsFirst, item_count};
 ghost use Rattle.bitset.specs.Sets.{members};
 
@@ -10,6 +10,7 @@ use super::set::BaselineSet;
 #[derive(Drop)]
 pub struct Baselines {
     left: BaselineSet,
+    ghost small: { left.bits < 2 ^ 64 },
 }
 
 impl Iterator for Baselines {

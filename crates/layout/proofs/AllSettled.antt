@@ -1,6 +1,6 @@
 -- The clusters are settled one after the other, each from its root.
 use Rattle.std.proofs.Common.{◌≡◌, ℕ, ◌+◌, ◌^◌, ◌<◌, ◌≤◌, Bool, true, false, cond, not, ◌&&◌, ◌||◌, ◌↔◌, [], sym, ap, ◌∙◌, subst, ⊎_elim, arith}
-use Rattle.std.proofs.lemmas.Bool.{or_cases, or_left, or_right, or_parts, both_ways, cases_lt, cases_eq, false_from_ne_true}
+use Rattle.std.proofs.lemmas.Bool.{or_cases, or_left, or_right, or_parts, both_ways, cases_lt, cases_eq, cond-true, cond-false, false_from_ne_true}
 use Rattle.std.proofs.lemmas.Bool.Decides.{nat_tests}
 use Rattle.bitset.specs.Sets.{has}
 use Rattle.bitset.proofs.Members.{has_none}
@@ -18,7 +18,6 @@ use Rattle.layout.specs.declared.walk.Walk.{Walk}
 use Rattle.layout.specs.Answered.{Settling}
 use Rattle.layout.specs.Tables.{bits_at}
 use Rattle.layout.specs.Told.{told}
-use Rattle.layout.specs.Walked.{Walked}
 use Rattle.layout.proofs.Tells.{sound_told}
 use Rattle.layout.proofs.Steps.{walked_reach}
 
@@ -107,7 +106,7 @@ module _ (t : Table) (sound : Sound t) where
         unsettled_clash t sound r below none
         (λ v l. let lv : v < t.count = omega arith in
         let k = root_le v lv in
-        (bits_at x.near, has x.doubtful.bits v, s.settled v lv (omega arith)))
+        (bits_at x.near.near, has x.doubtful.bits v, s.settled v lv (omega arith)))
 
     -- what it reaches has it as root, and the other way round
     reached_root : (v : ℕ) → Reach t r v → root t v ≡ r
@@ -118,8 +117,8 @@ module _ (t : Table) (sound : Sound t) where
 
     -- it is settled
     module _ (y : Clusters) (met : ℕ) (doubtful : Bool) (reaches : (v : ℕ) → (has met v ≡ true) ↔ Reach t r v)
-        (kept : (v : ℕ) → (Reach t r v → ⊥) → bits_at y.near v ≡ bits_at x.near v)
-        (here-settled : Settled t r (bits_at y.near) doubtful)
+        (kept : (v : ℕ) → (Reach t r v → ⊥) → bits_at y.near.near v ≡ bits_at x.near.near v)
+        (here-settled : Settled t r (bits_at y.near.near) doubtful)
         (settled_is : (v : ℕ) → has y.settled.bits v ≡ (has x.settled.bits v || has met v))
         (doubtful-is : (v : ℕ) → has y.doubtful.bits v ≡ (has x.doubtful.bits v || (doubtful && has met v))) where
       -- what was settled before is not of this cluster
@@ -138,22 +137,22 @@ module _ (t : Table) (sound : Sound t) where
             (cases_eq (root t v) r),
       )
 
-      settled_next : (v : ℕ) → v < t.count → root t v < r + 1 → Settled t (root t v) (bits_at y.near) (has y.doubtful.bits v)
+      settled_next : (v : ℕ) → v < t.count → root t v < r + 1 → Settled t (root t v) (bits_at y.near.near) (has y.doubtful.bits v)
       settled_next v l h = ⊎_elim new old (cases_eq (root t v) r)
         where
-          new : root t v ≡ r → Settled t (root t v) (bits_at y.near) (has y.doubtful.bits v)
+          new : root t v ≡ r → Settled t (root t v) (bits_at y.near.near) (has y.doubtful.bits v)
           new e =
               let m = (reaches v).1 (root_reached v l e) in
               let before : has x.doubtful.bits v ≡ false = s.certain v (false_from_ne_true _ (λ k. omega (arith, (s.which v l).0 k))) in
               let is : has y.doubtful.bits v ≡ doubtful = doubtful-is v ∙ new_doubt _ doubtful _ before m in
-              subst (λ d. Settled t (root t v) (bits_at y.near) d) (sym is) (subst (λ q. Settled t q (bits_at y.near) doubtful) (sym e) here-settled)
+              subst (λ d. Settled t (root t v) (bits_at y.near.near) d) (sym is) (subst (λ q. Settled t q (bits_at y.near.near) doubtful) (sym e) here-settled)
 
-          old : (root t v ≡ r → ⊥) → Settled t (root t v) (bits_at y.near) (has y.doubtful.bits v)
+          old : (root t v ≡ r → ⊥) → Settled t (root t v) (bits_at y.near.near) (has y.doubtful.bits v)
           old ne =
               let lower : root t v < r = omega arith in
               let is : has y.doubtful.bits v ≡ has x.doubtful.bits v = doubtful-is v ∙ old_doubt _ doubtful _ (not_met v l lower) in
-              subst (λ d. Settled t (root t v) (bits_at y.near) d) (sym is)
-              (settled_alike t (root t v) (bits_at x.near) (bits_at y.near)
+              subst (λ d. Settled t (root t v) (bits_at y.near.near) d) (sym is)
+              (settled_alike t (root t v) (bits_at x.near.near) (bits_at y.near.near)
               (λ u c. kept u (λ d. omega (arith, reached_root u d, root_root t sound v l, root_same t sound (root t v) (root_below t sound v l) u c)))
               (s.settled v l lower))
 
@@ -168,20 +167,38 @@ module _ (t : Table) (sound : Sound t) where
 
 -- all are settled
 pub settling_all : (t : Table) → Sound t → (x : Clusters) (n : ℕ) → t.count ≤ n → Settling t x n
-    → (v : ℕ) → v < t.count → Settled t (root t v) (bits_at x.near) (has x.doubtful.bits v)
+    → (v : ℕ) → v < t.count → Settled t (root t v) (bits_at x.near.near) (has x.doubtful.bits v)
 settling_all t sound x n l s v lv = s.settled v lv (let b = root_below t sound v lv in omega arith)
 
--- the cluster of r was walked through and settled
-pub settling_walk : (x : Rows) (before after : Clusters) (r : ℕ) (w : Walk) (doubtful : Bool) → Walked (told x) w → w.root ≡ r
-    → r < x.count → Settling (told x) before r → has before.settled.bits r ≡ false
-    → ((v : ℕ) → (Reach (told x) w.root v → ⊥) → bits_at after.near v ≡ bits_at before.near v)
-    → Settled (told x) w.root (bits_at after.near) doubtful
+-- the cluster of a walk was settled
+settling_here : (w : Walk) (before after : Clusters) (near : ℕ → ℕ) (doubtful : Bool)
+    → Settling (told w.rows.now) before w.root → has before.settled.bits w.root ≡ false
+    → ((v : ℕ) → bits_at after.near.near v ≡ cond (has w.met.bits v) (near v) (bits_at before.near.near v))
+    → Settled (told w.rows.now) w.root near doubtful
+    → ((v : ℕ) → has after.settled.bits v ≡ (has before.settled.bits v || has w.met.bits v))
+    → ((v : ℕ) → has after.doubtful.bits v ≡ (has before.doubtful.bits v || (doubtful && has w.met.bits v)))
+    → Settling (told w.rows.now) after (w.root + 1)
+settling_here w before after near doubtful s fresh is settled which doubts =
+    settling_more t (sound_told w.rows.now) before w.root w.walked.below s fresh after w.met.bits doubtful reaches
+    (λ v out. is v ∙ cond-false _ _ _ (false_from_ne_true _ (λ h. out ((reaches v).0 h))))
+    (settled_alike t w.root near (bits_at after.near.near) (λ v c. is v ∙ cond-true _ _ _ ((reaches v).1 c)) settled)
+    which doubts
+  where
+    t : Table
+    t = told w.rows.now
+
+    reaches : (v : ℕ) → (has w.met.bits v ≡ true) ↔ Reach t w.root v
+    reaches = walked_reach t (sound_told w.rows.now) w.root w.met.bits w.steps.items w.walked
+
+-- the cluster of r, which was walked through, was settled
+pub settling_walk : (x : Rows) (r : ℕ) (w : Walk) → w.rows.now ≡ x → w.root ≡ r → (before after : Clusters) (near : ℕ → ℕ) (doubtful : Bool)
+    → Settling (told x) before r → has before.settled.bits r ≡ false
+    → ((v : ℕ) → bits_at after.near.near v ≡ cond (has w.met.bits v) (near v) (bits_at before.near.near v))
+    → Settled (told w.rows.now) w.root near doubtful
     → ((v : ℕ) → has after.settled.bits v ≡ (has before.settled.bits v || has w.met.bits v))
     → ((v : ℕ) → has after.doubtful.bits v ≡ (has before.doubtful.bits v || (doubtful && has w.met.bits v)))
     → Settling (told x) after (r + 1)
-settling_walk x before after r w doubtful walked from below s fresh kept settled which doubts =
-    let P : ℕ → Type 0 = λ q. q < x.count → Settling (told x) before q → has before.settled.bits q ≡ false → Settling (told x) after (q + 1) in
-    subst P from
-    (λ l s f. settling_more (told x) (sound_told x) before w.root l s f after w.met.bits doubtful
-    (walked_reach (told x) (sound_told x) w walked) kept settled which doubts)
-    below s fresh
+settling_walk x r w e f before after near doubtful s fresh is settled which doubts =
+    let P : Rows → Type 0 = λ x. Settling (told x) before r → Settling (told x) after (r + 1) in
+    let Q : ℕ → Type 0 = λ q. has before.settled.bits q ≡ false → Settling (told w.rows.now) before q → Settling (told w.rows.now) after (q + 1) in
+    subst P e (subst Q f (λ fresh s. settling_here w before after near doubtful s fresh is settled which doubts) fresh) s

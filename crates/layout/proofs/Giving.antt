@@ -1,37 +1,17 @@
 -- A number is given to the baselines of a star, one after the other.
-use Rattle.std.proofs.Common.{◌≡◌, ℕ, ◌^◌, ◌<◌, Bool, true, false, cond, not, ◌&&◌, eqb, length, get_or, set, Some, None, Option, unwrap_or, sym, refl, ap, ◌∙◌, ap₂, ⊎_elim, arith, length-set, MatchOption}
+use Rattle.std.proofs.Common.{◌≡◌, ℕ, ◌^◌, ◌<◌, Bool, true, false, cond, not, ◌&&◌, eqb, [], ◌∷◌, length, get_or, set, sym, refl, ap, ◌∙◌, ap₂, ⊎_elim, arith, length-set, Some, None, Option, MatchOption}
+use lib.Count.{trailing_of_zero}
+use Rattle.std.specs.Option.{option_eq}
 use mathlib.Core.Bool.{and-true}
-use lib.Count.{count_trailing_zeros, trailing_of_zero}
 use Rattle.std.proofs.lemmas.List.{get_or-set_same, get_or-set_other}
 use Rattle.std.proofs.lemmas.Bool.{and_parts, eq-eqb, ne_eqb, cases_eq}
-use Rattle.bitset.specs.Sets.{has, drop, lowest, Lowest}
-use Rattle.bitset.proofs.Members.{has_none, lowest_unique}
+use Rattle.bitset.specs.Sets.{has, members, lowest, Lowest}
+use Rattle.bitset.proofs.Members.{lowest_unique}
+use Rattle.bitset.proofs.Rising.{members_turn, members_gone}
 use Rattle.theory.specs.declared.record.Entry.{Entry}
 use Rattle.theory.specs.Record.{blank}
-use Rattle.theory.specs.Imagers.{second}
 use Rattle.layout.specs.declared.numbering.Numbers.{Numbers}
 use Rattle.layout.specs.Numbers.{given}
-use Rattle.layout.proofs.Each.{stays}
-
--- ---- the second baseline of a star
-
--- nothing has none
-pub second_none : (m : ℕ) → m ≡ 0 → 64 ≡ second m
-unfolding second count_trailing_zeros
-second_none m e = sym (ap (λ x. lowest (drop x (lowest x))) e ∙ trailing_of_zero 64)
-
--- else it is the lowest of the others
-pub second_some : (m first rest : ℕ) (o : Option ℕ) → m < 2 ^ 64 → rest < 2 ^ 64 → Lowest m first → rest ≡ drop m first
-    → MatchOption o (rest ≡ 0) (Lowest rest) → unwrap_or o 64 ≡ second m
-unfolding second
-second_some m first rest o l k low is found =
-    at o found ∙ ap lowest (is ∙ ap (drop m) (lowest_unique m first l low))
-  where
-    at : (o : Option ℕ) → MatchOption o (rest ≡ 0) (Lowest rest) → unwrap_or o 64 ≡ lowest rest
-    at None e = sym (ap lowest e ∙ trailing_of_zero 64)
-    at (Some u) f = lowest_unique rest u k f
-
--- ---- the baselines of a star
 
 -- The entry of w, of those that have the number if they are in the star and not in the rest.
 abbrev pub so_far : Numbers → ℕ → ℕ → ℕ → Entry
@@ -63,11 +43,10 @@ giving_none x star l long = record {
     none false e f = refl
 
 -- v has it too
-pub giving_more : (before : Numbers) (star rest rest' : ℕ) (now : Numbers) (v : ℕ) (e : Entry) → Lowest rest v → rest' < 2 ^ 64
-    → ((k : ℕ) → has rest' k ≡ (has rest k && not (eqb k v)))
+pub giving_more : (before : Numbers) (star rest rest' : ℕ) (now : Numbers) (v : ℕ) (e : Entry) → rest' < 2 ^ 64 → members rest ≡ v ∷ members rest'
     → e ≡ given (get_or now.entries v blank) (has now.begun.bits v) now.next → Giving before star rest now
     → Giving before star rest' (record { entries = set now.entries v e; begun = now.begun; next = now.next })
-giving_more before star rest rest' now v e low l is new g = record {
+giving_more before star rest rest' now v e l turn new g = record {
   small = l;
   within = λ w h. g.within w (and_parts _ _ (sym (is w) ∙ h)).0;
   long = simp length-set g.long;
@@ -76,6 +55,12 @@ giving_more before star rest rest' now v e low l is new g = record {
   entries = λ w. ⊎_elim (here w) (there w) (cases_eq w v);
 }
   where
+    low : Lowest rest v
+    low = (members_turn rest rest' v g.small l turn).0
+
+    is : (k : ℕ) → has rest' k ≡ (has rest k && not (eqb k v))
+    is = (members_turn rest rest' v g.small l turn).1
+
     -- v had it not
     was : get_or now.entries v blank ≡ get_or before.entries v blank
     was =
@@ -101,13 +86,18 @@ giving_more before star rest rest' now v e low l is new g = record {
     there w ne =
         get_or-set_other now.entries v w e blank ne ∙ g.entries w
         ∙ ap (λ b. cond (has star w && not b) (given (get_or before.entries w blank) (has before.begun.bits w) before.next) (get_or before.entries w blank))
-        (sym (is w ∙ stays (has rest w) (eqb w v) (ne_eqb w v ne)))
+        (sym (is w ∙ ap (λ b. has rest w && not b) (ne_eqb w v ne) ∙ and-true (has rest w)))
 
 -- all have it
-pub giving_all : (before : Numbers) (star rest : ℕ) (now : Numbers) → rest ≡ 0 → Giving before star rest now
+pub giving_all : (before : Numbers) (star rest : ℕ) (now : Numbers) → members rest ≡ [] → Giving before star rest now
     → (w : ℕ) → get_or now.entries w blank
     ≡ cond (has star w) (given (get_or before.entries w blank) (has before.begun.bits w) before.next) (get_or before.entries w blank)
-giving_all before star rest now z g w =
+giving_all before star rest now none g w =
     g.entries w
     ∙ ap (λ b. cond b (given (get_or before.entries w blank) (has before.begun.bits w) before.next) (get_or before.entries w blank))
-    (ap (λ m. has star w && not (has m w)) z ∙ ap (λ b. has star w && not b) (has_none w) ∙ and-true (has star w))
+    (ap (λ b. has star w && not b) (members_gone rest g.small none w) ∙ and-true (has star w))
+
+-- whether v is the lowest baseline, as it is asked
+pub asked_lowest : (m : ℕ) (o : Option ℕ) (v : ℕ) → m < 2 ^ 64 → v < 64 → MatchOption o (m ≡ 0) (Lowest m) → option_eq eqb o (Some v) ≡ eqb (lowest m) v
+asked_lowest m None v l low e = sym (ne_eqb (lowest m) v (λ h. omega (arith, ap lowest e ∙ trailing_of_zero 64)))
+asked_lowest m (Some i) v l low e = ap (λ i. eqb i v) (lowest_unique m i l e)

@@ -1,132 +1,106 @@
--- The starts that pass, in the order in which they are tried.
-use Rattle.std.proofs.Common.{◌≡◌, ℕ, zero, suc, ◌+◌, ◌^◌, ◌<◌, Bool, true, false, cond, not, ◌&&◌, eqb, List, [], ◌∷◌, Some, None, Option, sym, refl, ap, ◌∙◌, ap₂, ⊎_elim, arith}
-use Rattle.std.proofs.lemmas.Bool.{and_parts, and_left, cond_both, cond-false, eq-eqb, ne_eqb, cases_eq}
-use Rattle.bitset.specs.Sets.{has, single, drop, Highest}
-use Rattle.bitset.proofs.Members.{has_none, has_drop, minus_lt}
+-- The starts in the order of preference, and those of them that pass.
+use Rattle.std.proofs.Common.{◌≡◌, ℕ, zero, suc, ◌+◌, Bool, true, false, cond, not, ◌&&◌, ◌||◌, eqb, List, [], ◌∷◌, ◌++◌, map, reverse, filter, All, Some, None, sym, refl, ap, ◌∙◌, subst, add-one, arith}
+use Rattle.std.specs.List.{range_with_len, list_any, AllByRecursion}
+use Rattle.std.proofs.lemmas.List.{reverse-append, map-id, append-nil}
+use Rattle.std.proofs.lemmas.List.Elements.{All-nil, All-cons, All-head, All-tail, All-append, All-map}
+use Rattle.std.proofs.lemmas.List.FromFn.{filter_of_map_range_with_len_more}
+use Rattle.std.proofs.lemmas.Bool.{cond-true, cond-false}
+use Rattle.bitset.specs.declared.set.BaselineSet.{BaselineSet}
+use Rattle.bitset.specs.Sets.{has, members, Highest}
+use Rattle.bitset.proofs.Rising.{members_none, members_last, members_each}
 use Rattle.evidence.specs.Table.{Table}
 use Rattle.theory.specs.Search.{Start, between, passes, passing_below, passing, is_nil}
-use Rattle.theory.proofs.Counts.{how_many}
-use Rattle.theory.proofs.Places.{one}
 use Rattle.layout.specs.declared.order.Starts.{Starts}
-use Rattle.layout.specs.Order.{Next, Between, passing_among, left, Found}
-use Rattle.layout.proofs.Each.{gone, stays, each_falls}
+use Rattle.layout.specs.declared.order.Starts.TheVariants.{All as Whole, Crossing}
+use Rattle.layout.specs.Order.{starts_left}
 
--- a set without one member is a set of baselines
-drop_lt : (m x : ℕ) → m < 2 ^ 64 → drop m x < 2 ^ 64
-drop_lt m x l = cond_both _ _ _ (λ a. a < 2 ^ 64) (λ _. minus_lt 64 m (single x) l) (λ _. l)
+-- ---- which start is next
 
--- How many starts are left.
-abbrev pub starts_left : Starts → ℕ
-starts_left s = one s.plain + how_many (has s.crosses.bits) 64
+-- at first the one that crosses none
+pub next_plain : (s : Starts) (crosses : BaselineSet) → s ≡ Whole crosses → starts_left s ≡ None ∷ starts_left (Crossing crosses)
+unfolding starts_left
+next_plain s crosses e = ap starts_left e
 
--- A start, if it passes, before the others.
-abbrev pub tried : Table → ℕ → Option ℕ → List (Option ℕ) → List (Option ℕ)
-tried t r start others = cond (passes t r start) (start ∷ others) others
+-- then the highest cross
+pub next_cross : (s : Starts) (crosses rest : BaselineSet) (x : ℕ) → s ≡ Crossing crosses → Highest crosses.bits x
+    → ((k : ℕ) → has rest.bits k ≡ (has crosses.bits k && not (eqb k x))) → starts_left s ≡ Some x ∷ starts_left (Crossing rest)
+unfolding starts_left
+next_cross s crosses rest x e high is =
+    ap starts_left e
+    ∙ ap (λ l. map Some (reverse l)) (members_last crosses.bits rest.bits x high is)
+    ∙ ap (map Some) (reverse-append (members rest.bits) (x ∷ []))
 
-module _ (t : Table) (r : ℕ) where
-  -- ---- the starts with a cross
+-- and none where no cross is left
+pub next_none : (s : Starts) (crosses : BaselineSet) → s ≡ Crossing crosses → crosses.bits ≡ 0 → starts_left s ≡ []
+unfolding starts_left
+next_none s crosses e z = ap starts_left e ∙ ap (λ l. map Some (reverse l)) (members_none crosses.bits z)
 
-  -- k is a cross, or it is not
-  among_cross : (m k : ℕ) → has m k ≡ true → passing_among t r m (suc k) ≡ tried t r (Some k) (passing_among t r m k)
-  unfolding passing_among
-  among_cross m k h = ap (λ b. cond (b && passes t r (Some k)) (Some k ∷ passing_among t r m k) (passing_among t r m k)) h
+-- ---- all of them are starts
 
-  among_skip : (m k : ℕ) → has m k ≡ false → passing_among t r m (suc k) ≡ passing_among t r m k
-  unfolding passing_among
-  among_skip m k h = cond-false _ _ _ (and_left _ _ h)
+all_reverse : {A : Type 0} (P : A → Type 0) (xs : List A) → All P xs → All P (reverse xs)
+all_reverse P [] all = All-nil P
+all_reverse P (x ∷ xs) all =
+    subst (All P) (sym (reverse-append (x ∷ []) xs))
+    (All-append P (reverse xs) (x ∷ []) (all_reverse P xs (All-tail P x xs all)) (All-cons P x [] (All-head P x xs all) (All-nil P)))
 
-  -- of no crosses, none passes
-  among_none : (k : ℕ) → passing_among t r 0 k ≡ []
-  unfolding passing_among
-  among_none zero = refl
-  among_none (suc k) = among_skip 0 k (has_none k) ∙ among_none k
+pub all_starts : (t : Table) (r : ℕ) (crosses : BaselineSet) → crosses.bits ≡ between t r → All (Start t r) (starts_left (Whole crosses))
+unfolding starts_left
+all_starts t r crosses e =
+    All-cons (Start t r) None _ tt
+    (All-map (Start t r) Some (reverse (members crosses.bits))
+    (all_reverse (λ x. Start t r (Some x)) (members crosses.bits)
+    (members_each (λ x. Start t r (Some x)) crosses.bits (λ x _ h. ap (λ m. has m x) (sym e) ∙ h))))
 
-  -- sets that are alike below k have the same starts below k
-  among_alike : (m n k : ℕ) → ((i : ℕ) → i < k → has m i ≡ has n i) → passing_among t r m k ≡ passing_among t r n k
-  unfolding passing_among
-  among_alike m n zero same = refl
-  among_alike m n (suc k) same =
-      ap₂ (λ b l. cond (b && passes t r (Some k)) (Some k ∷ l) l) (same k (omega arith)) (among_alike m n k (λ i l. same i (omega arith)))
+-- ---- those that pass
 
-  -- the highest cross is tried first
-  among_highest : (m x : ℕ) → m < 2 ^ 64 → Highest m x → (k : ℕ) → x < k
-      → passing_among t r m k ≡ tried t r (Some x) (passing_among t r (drop m x) k)
-  among_highest m x l high zero lk = absurd (omega arith)
-  among_highest m x l high (suc k) lk =
-      ⊎_elim
-      (λ e. among_cross m k (ap (has m) e ∙ high.member)
-      ∙ ap₂ (λ i others. tried t r (Some i) others) e
-      (among_alike m (drop m x) k (λ i h. sym (has_drop m x i l ∙ stays (has m i) (eqb i x) (ne_eqb i x (λ p. omega arith))))
-      ∙ sym (among_skip (drop m x) k (has_drop m x k l ∙ gone (has m k) (eqb k x) (eq-eqb k x e)))))
-      (λ ne. let above : x < k = omega arith in
-      let off = high.greatest k above in
-      among_skip m k off ∙ among_highest m x l high k above
-      ∙ ap (tried t r (Some x)) (sym (among_skip (drop m x) k (has_drop m x k l ∙ and_left _ _ off))))
-      (cases_eq k x)
+-- what a test keeps of the numbers up to k
+kept_more : (p : ℕ → Bool) (k : ℕ) → filter p (range_with_len 0 (suc k)) ≡ filter p (range_with_len 0 k) ++ cond (p k) (k ∷ []) []
+kept_more p k =
+    ap (λ n. filter p (range_with_len 0 n)) (sym (add-one k)) ∙ ap (filter p) (sym (map-id (range_with_len 0 (k + 1))))
+    ∙ filter_of_map_range_with_len_more p (λ x. x) 0 k k (omega arith)
+    ∙ ap (λ l. filter p l ++ cond (p k) (k ∷ []) []) (map-id (range_with_len 0 k))
 
-  -- all crosses
-  among_below : (k : ℕ) → passing_below t r k ≡ passing_among t r (between t r) k
-  unfolding passing_below passing_among
-  among_below zero = refl
-  among_below (suc k) =
-      ap (λ l. cond (has (between t r) k && passes t r (Some k)) (Some k ∷ l) l) (among_below k)
+-- with a cross below k
+below_kept : (t : Table) (r k : ℕ)
+    → passing_below t r k ≡ filter (passes t r) (map Some (reverse (filter (has (between t r)) (range_with_len 0 k))))
+unfolding passing_below
+below_kept t r zero = refl
+below_kept t r (suc k) =
+    ap (λ l. cond (has (between t r) k && passes t r (Some k)) (Some k ∷ l) l) (below_kept t r k)
+    ∙ either (has (between t r) k) (filter (has (between t r)) (range_with_len 0 k))
+    ∙ ap (λ l. filter (passes t r) (map Some (reverse l))) (sym (kept_more (has (between t r)) k))
+  where
+    either : (b : Bool) (xs : List ℕ)
+        → cond (b && passes t r (Some k)) (Some k ∷ filter (passes t r) (map Some (reverse xs))) (filter (passes t r) (map Some (reverse xs)))
+        ≡ filter (passes t r) (map Some (reverse (xs ++ cond b (k ∷ []) [])))
+    either true xs = ap (λ l. filter (passes t r) (map Some l)) (sym (reverse-append xs (k ∷ [])))
+    either false xs = ap (λ l. filter (passes t r) (map Some (reverse l))) (sym (append-nil xs))
 
-  -- ---- all starts
+-- all, in the order of preference
+pub passing_kept : (t : Table) (r : ℕ) (crosses : BaselineSet) → crosses.bits ≡ between t r → passing t r ≡ filter (passes t r) (starts_left (Whole crosses))
+unfolding passing starts_left members
+passing_kept t r crosses e =
+    ap (λ l. cond (passes t r None) (None ∷ l) l)
+    (below_kept t r 64 ∙ ap (λ m. filter (passes t r) (map Some (reverse (filter (has m) (range_with_len 0 64))))) (sym e))
 
-  -- at first all are left
-  pub all_left : (s : Starts) → s.plain ≡ true → s.crosses.bits ≡ between t r → passing t r ≡ left t r s
-  unfolding passing left
-  all_left s p e =
-      ap₂ (λ b l. cond (b && passes t r None) (None ∷ l) l) (sym p) (among_below 64 ∙ ap (λ m. passing_among t r m 64) (sym e))
+-- ---- the first that passes
 
-  -- none is left
-  pub none_left : (s s' : Starts) → Next s s' None → left t r s ≡ []
-  unfolding left
-  none_left s s' n =
-      cond-false _ _ _ (and_left _ _ n.0) ∙ ap (λ m. passing_among t r m 64) n.1 ∙ among_none 64
+module _ {A : Type 0} (p : A → Bool) where
+  -- it comes first of those that are kept
+  pub first_kept : (xs : List A) (x : A) (ys : List A) → AllByRecursion (λ y. p y ≡ false) xs → p x ≡ true → filter p (xs ++ x ∷ ys) ≡ x ∷ filter p ys
+  first_kept [] x ys off on = cond-true _ _ _ on
+  first_kept (y ∷ xs) x ys off on = cond-false _ _ _ off.0 ∙ first_kept xs x ys off.1 on
 
-  -- the next one is before those that are left after it
-  pub next_left : (s s' : Starts) (start : Option ℕ) → s.crosses.bits < 2 ^ 64 → Next s s' (Some start) → left t r s ≡ tried t r start (left t r s')
-  unfolding left
-  next_left s s' None l n =
-      ap₂ (λ b m. cond (b && passes t r None) (None ∷ passing_among t r m 64) (passing_among t r m 64)) n.0 (sym n.2)
-      ∙ ap (tried t r None) (sym (cond-false _ _ _ (and_left _ _ n.1)))
-  next_left s s' (Some x) l n =
-      cond-false _ _ _ (and_left _ _ n.0) ∙ among_highest s.crosses.bits x l n.2 64 n.2.below
-      ∙ ap (λ m. tried t r (Some x) (passing_among t r m 64)) (sym n.3)
-      ∙ ap (tried t r (Some x)) (sym (cond-false _ _ _ (and_left _ _ n.1)))
+  -- where none passes, none is kept
+  pub none_kept : (xs : List A) → All (λ y. p y ≡ false) xs → filter p xs ≡ []
+  none_kept [] off = refl
+  none_kept (x ∷ xs) off = cond-false _ _ _ (All-head (λ y. p y ≡ false) x xs off) ∙ none_kept xs (All-tail (λ y. p y ≡ false) x xs off)
 
--- the crosses that are left are between, if they were
-pub next_between : (t : Table) (r : ℕ) (s s' : Starts) (start : Option ℕ) → Between t r s → Next s s' (Some start) → Between t r s'
-next_between t r s s' None b n =
-    let l = b.small in
-    let e = n.2 in
-    record { small = omega arith; all = λ x h. b.all x (ap (λ m. has m x) (sym n.2) ∙ h) }
-next_between t r s s' (Some y) b n = record {
-  small = omega (arith, n.3, drop_lt s.crosses.bits y b.small);
-  all = λ x h. b.all x (and_parts _ _ (sym (ap (λ m. has m x) n.3 ∙ has_drop s.crosses.bits y x b.small) ∙ h)).0;
-}
-
--- then the next one is a start
-pub next_start : (t : Table) (r : ℕ) (s s' : Starts) (start : Option ℕ) → Between t r s → Next s s' (Some start) → Start t r start
-next_start t r s s' None b n = tt
-next_start t r s s' (Some x) b n = b.all x n.2.member
-
--- fewer are left
-pub next_falls : (s s' : Starts) (start : Option ℕ) → s.crosses.bits < 2 ^ 64 → Next s s' (Some start) → starts_left s' < starts_left s
-next_falls s s' None l n =
-    omega (arith, ap one n.0, ap one n.1, ap (λ m. how_many (has m) 64) n.2)
-next_falls s s' (Some x) l n =
-    let high = n.2 in
-    omega (
-      arith,
-      ap one n.0,
-      ap one n.1,
-      ap (λ m. how_many (has m) 64) n.3,
-      each_falls s.crosses.bits (drop s.crosses.bits x) x (λ k. has_drop s.crosses.bits x k l) l (drop_lt s.crosses.bits x l) high.below high.member,
-    )
-
--- one is found just where one that passes is left
-pub found_some : (t : Table) (r : ℕ) (s s' : Starts) (near : ℕ → ℕ) (found : Bool) → Found t r s s' near found → found ≡ not (is_nil (left t r s))
-found_some t r s s' near true x = sym (ap (λ l. not (is_nil l)) x.1)
-found_some t r s s' near false e = sym (ap (λ l. not (is_nil l)) e)
+  -- some passes just where some are kept
+  pub any_kept : (xs : List A) → list_any p xs ≡ not (is_nil (filter p xs))
+  any_kept [] = refl
+  any_kept (x ∷ xs) = ap (λ b. p x || b) (any_kept xs) ∙ either (p x)
+    where
+      either : (b : Bool) → (b || not (is_nil (filter p xs))) ≡ not (is_nil (cond b (x ∷ filter p xs) (filter p xs)))
+      either true = refl
+      either false = refl

@@ -1,10 +1,10 @@
 -- The test that asks each star once passes just where near stars are a system of stars.
-use Rattle.std.proofs.Common.{◌≡◌, ℕ, ◌^◌, ◌<◌, Bool, true, false, not, ◌&&◌, ◌||◌, eqb, ◌↔◌, sym, refl, ap, ◌∙◌, subst, ⊎_elim, arith}
+use Rattle.std.proofs.Common.{◌≡◌, ℕ, ◌^◌, ◌<◌, Bool, true, false, not, ◌&&◌, ◌||◌, eqb, ◌↔◌, MatchBool, sym, refl, ap, ◌∙◌, subst, ⊎_elim, arith}
 use lib.Bits.{bit_or}
-use Rattle.std.proofs.lemmas.Bool.{and_parts, and_from, or_cases, or_left, eqb-true, eq-eqb, ne_eqb, cond-true, cond-false, cond_both, cases_eq}
+use Rattle.std.proofs.lemmas.Bool.{and_parts, and_from, or_cases, or_left, eqb-true, eq-eqb, ne_eqb, cond-true, cond-false, cond_both, cases_eq, both_ways, false≢true, false_from_ne_true}
 use Rattle.std.proofs.lemmas.Bool.Decides.{nat_tests}
 use Rattle.bitset.specs.Sets.{has, minus, single, lowest, Lowest}
-use Rattle.bitset.proofs.Members.{not_empty, has_or, has_minus, has_single, has_none, lowest_is}
+use Rattle.bitset.proofs.Members.{not_empty, has_or, has_minus, has_single, has_none, has_lt, lowest_is}
 use Rattle.evidence.specs.Table.{Table, Sound}
 use Rattle.theory.specs.Clusters.{Reach, step}
 use Rattle.theory.specs.Stars.{row, far, star, Stars}
@@ -15,7 +15,11 @@ use Rattle.theory.proofs.Reaches.{reach_below}
 use Rattle.theory.proofs.Walks.{walk_cluster}
 use Rattle.theory.proofs.StarFacts.{far_has, far_lt}
 use Rattle.theory.proofs.Verify.{all_tells, verified_stars, stars_verified}
+use Rattle.layout.specs.declared.walk.Walk.{Walk}
 use Rattle.layout.specs.Quick.{star_of, quick, near_fits, quick_at}
+use Rattle.layout.specs.Told.{told}
+use Rattle.layout.proofs.Tells.{sound_told}
+use Rattle.layout.proofs.Steps.{walked_reach}
 
 -- a test that is asked for only where another passes
 asked : (a b : Bool) → (not a || b) ≡ true → a ≡ true → b ≡ true
@@ -39,6 +43,14 @@ agreed_tells t near a = (
   λ h w l k. asked (has a w) _ ((all_tells _ 64).0 h w l) k,
   λ h. (all_tells _ 64).1 (λ w l. ask (has a w) _ (h w l)),
 )
+
+-- so whoever asks each baseline of it learns whether it is agreed on
+pub agreed_from : (t : Table) (near : ℕ → ℕ) (a : ℕ) (r : Bool) → a < 2 ^ 64
+    → MatchBool r ((w : ℕ) → has a w ≡ true → star_of t near a w ≡ true) ((w : ℕ) × (has a w ≡ true) × (star_of t near a w ≡ false))
+    → r ≡ agreed t near a
+agreed_from t near a true l each = sym ((agreed_tells t near a).1 (λ w _. each w))
+agreed_from t near a false l one =
+    sym (false_from_ne_true _ (λ h. both_ways _ one.2 ((agreed_tells t near a).0 h one.0 (has_lt 64 a one.0 l one.1) one.1)))
 
 -- then the quick test of it passes too
 agreed_quick : (t : Table) (near : ℕ → ℕ) (v a : ℕ) → a < 2 ^ 64 → has a v ≡ true → agreed t near a ≡ true → quick t near v a ≡ true
@@ -145,3 +157,19 @@ module _ (t : Table) (sound : Sound t) (r : ℕ) (below : r < t.count) (near : �
       (and_from _ _
       (agreed_quick t near v (near v) (small v c) (star_self v true x.0) y.0)
       (agreed_quick t near v (far t v (near v)) (star_small v false c) (star_self v false x.0) y.1))
+
+-- whoever asks each baseline of a walk learns whether they are a system of stars
+pub verified_by : (w : Walk) (near : ℕ → ℕ) (r : Bool) → ((v : ℕ) → Reach (told w.rows.now) w.root v → near v < 2 ^ 64)
+    → MatchBool r ((v : ℕ) → has w.met.bits v ≡ true → quick_at (told w.rows.now) near v ≡ true)
+    ((v : ℕ) × (has w.met.bits v ≡ true) × (quick_at (told w.rows.now) near v ≡ false))
+    → (r ≡ true) ↔ Stars (told w.rows.now) (Reach (told w.rows.now) w.root) (star (told w.rows.now) near)
+verified_by w near true small each = (
+  λ _. quick_stars (told w.rows.now) (sound_told w.rows.now) w.root w.walked.below near small (λ v reach. each v (w.walked.whole v reach)),
+  λ _. refl,
+)
+verified_by w near false small one = (
+  λ h. absurd (false≢true h),
+  λ good. absurd (both_ways _ one.2
+      (stars_quick (told w.rows.now) (sound_told w.rows.now) w.root w.walked.below near small good one.0
+      ((walked_reach (told w.rows.now) (sound_told w.rows.now) w.root w.met.bits w.steps.items w.walked one.0).0 one.1))),
+)

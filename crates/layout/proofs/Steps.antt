@@ -1,11 +1,13 @@
--- A walk, step by step.
-use Rattle.std.proofs.Common.{◌≡◌, ℕ, ◌+◌, ◌-◌, ◌<◌, ◌≤◌, true, false, not, ◌&&◌, ◌||◌, eqb, ltb, ◌↔◌, List, [], ◌∷◌, ◌++◌, reverse, length, take, set, replicate, sym, refl, ap, ◌∙◌, subst, ⊎_elim, arith, length-set}
-use lib.Bits.{bit_or, or_zero_l, or_lt}
-use Rattle.std.proofs.lemmas.List.{take_more_set, reverse-append, length-reverse, length-take-le}
-use Rattle.std.proofs.lemmas.Bool.{and_parts, or_cases, eqb-true, not-true, both_ways, cases_Bool}
-use Rattle.bitset.specs.declared.set.BaselineSet.{BaselineSet}
-use Rattle.bitset.specs.Sets.{has, minus, single, put}
-use Rattle.bitset.proofs.Members.{has_minus, has_none, single_lt}
+-- The walk through a cluster, step by step.
+use Rattle.std.proofs.Common.{◌≡◌, ℕ, ◌+◌, ◌-◌, ◌^◌, ◌<◌, Bool, true, false, not, ◌&&◌, ◌||◌, eqb, ltb, List, [], ◌∷◌, ◌++◌, map, reverse, length, ◌↔◌, ◌⊎◌, sym, refl, ap, ◌∙◌, subst, ap₂, inl, inr, ⊎_elim, arith, length-append}
+use mathlib.Core.Bool.{or-false}
+use lib.Bits.{bit_or, or_lt, or_zero_l}
+use Rattle.std.proofs.lemmas.List.{append_assoc, append-nil, length-map, length-reverse, reverse-append}
+use Rattle.std.proofs.lemmas.Bool.{and_parts, and_from, or_cases, or_left, or_from, ne_eqb, eqb-true, eq-eqb, not-true, both_ways, cases_Bool, cases_eq}
+use Rattle.std.proofs.lemmas.Bool.Decides.{nat_tests}
+use Rattle.bitset.specs.Sets.{has, minus, single, put, drop, members}
+use Rattle.bitset.proofs.Members.{has_none, has_minus, has_or, has_single, has_drop, has_lt, same_set, single_lt, drop_lt}
+use Rattle.bitset.proofs.Rising.{members_first, members_gone}
 use Rattle.evidence.specs.Table.{Table, Sound}
 use Rattle.theory.specs.Stars.{row}
 use Rattle.theory.specs.Clusters.{Reach, here, step}
@@ -14,55 +16,96 @@ use Rattle.theory.proofs.Rows.{row_has}
 use Rattle.theory.proofs.Counts.{how_many, how_many_le, how_many_put}
 use Rattle.theory.proofs.Walks.{steps_few, steps_reach}
 use Rattle.layout.specs.declared.walk.Walk.{Walk}
-use Rattle.layout.specs.Walked.{steps_of, Walking, Walked}
+use Rattle.layout.specs.Walked.{met_by, goes_on, Walked}
 use Rattle.layout.proofs.Tells.{put_is}
+
+-- steps from u to some baselines, after others: how many there are
+pub steps_count : (u : ℕ) (xs ys : List (ℕ × ℕ)) (l n : List ℕ) → xs ++ map (λ v. (u, v)) l ≡ ys ++ map (λ v. (u, v)) n
+    → length xs + length l ≡ length ys + length n
+steps_count u xs ys l n e =
+    sym (length-append xs (map (λ v. (u, v)) l) ∙ ap (λ k. length xs + k) (length-map l (λ v. (u, v))))
+    ∙ ap length e ∙ length-append ys (map (λ v. (u, v)) n) ∙ ap (λ k. length ys + k) (length-map n (λ v. (u, v)))
 
 -- one more at the end of a list stands first in its reverse
 pub reverse_push : {A : Type 0} (xs : List A) (x : A) → reverse (xs ++ x ∷ []) ≡ x ∷ reverse xs
 reverse_push xs x = reverse-append xs (x ∷ [])
 
-module _ (t : Table) (sound : Sound t) (r : ℕ) (below : r < t.count) where
-  -- there are fewer steps than baselines
-  taken_few : (steps : List (ℕ × ℕ)) (n met : ℕ) → length steps ≡ 64 → n ≤ 64 → Steps t r (reverse (take n steps)) met → n < 64
-  taken_few steps n met long l s =
-      let few = sound.few in
-      omega (arith, steps_few t sound r below s, length-reverse (take n steps), length-take-le n steps (omega arith))
+-- at first no step was taken, and the root is met
+pub steps_start : (t : Table) (r : ℕ) → r < 64 → (met : ℕ) (taken : List (ℕ × ℕ)) → met ≡ put 0 r → taken ≡ [] → Steps t r (reverse taken) met
+steps_start t r low met taken e f =
+    subst (λ l. Steps t r (reverse l) met) (sym f) (subst (Steps t r []) (sym (e ∙ put_is 0 r low ∙ or_zero_l (single r))) none)
 
-  -- the walk has met r alone
-  pub walking_none : (met : BaselineSet) → met.bits ≡ put 0 r → Walking t (record { root = r; met = met; steps = replicate 64 (0, 0); taken = 0 })
-  walking_none met e =
-      let few = sound.few in
-      let is : met.bits ≡ single r = e ∙ put_is 0 r (omega arith) ∙ or_zero_l (single r) in
-      record {
-        below = below;
-        long = refl;
-        small = rw is (single_lt 64 r (omega arith));
-        fits = omega arith;
-        steps = subst (Steps t r []) (sym is) none;
-      }
+-- steps from u to each of a list that is the members of n, none of which was met
+steps_list : (t : Table) (r u : ℕ) (l : List ℕ) (n met : ℕ) (taken : List (ℕ × ℕ)) → members n ≡ l → n < 2 ^ 64 → met < 2 ^ 64
+    → Steps t r (reverse taken) met → has met u ≡ true → ((v : ℕ) → has n v ≡ true → (has met v ≡ false) × (t.shares u v ≡ true))
+    → Steps t r (reverse (taken ++ map (λ v. (u, v)) l)) (bit_or met n)
+steps_list t r u [] n met taken e ln lm steps was new =
+    subst (Steps t r (reverse (taken ++ []))) same (subst (λ s. Steps t r (reverse s) met) (sym (append-nil taken)) steps)
+  where
+    same : met ≡ bit_or met n
+    same =
+        same_set 64 _ _ lm (or_lt 64 _ _ lm ln)
+        (λ k _. sym (has_or met n k ∙ ap (λ b. has met k || b) (members_gone n ln e k) ∙ or-false (has met k)))
+steps_list t r u (v ∷ l) n met taken e ln lm steps was new =
+    let first = members_first n v l ln e in
+    let met' = bit_or met (single v) in
+    let lm' : met' < 2 ^ 64 = or_lt 64 _ _ lm (single_lt 64 v first.0.below) in
+    let x = new v first.0.member in
+    let steps' : Steps t r (reverse (taken ++ (u, v) ∷ [])) met' =
+    subst (λ s. Steps t r s met') (sym (reverse_push taken (u, v))) (more steps was x.0 x.1) in
+    subst (Steps t r (reverse (taken ++ map (λ v. (u, v)) (v ∷ l)))) (same first.0.member)
+    (subst (λ s. Steps t r (reverse s) (bit_or met' (drop n v))) (append_assoc taken ((u, v) ∷ []) (map (λ v. (u, v)) l))
+    (steps_list t r u l (drop n v) met' (taken ++ (u, v) ∷ []) first.1 (drop_lt n v ln) lm' steps' (has_or met (single v) u ∙ or_left _ _ was) left))
+  where
+    left : (w : ℕ) → has (drop n v) w ≡ true → (has (bit_or met (single v)) w ≡ false) × (t.shares u w ≡ true)
+    left w h =
+        let p = and_parts (has n w) (not (eqb w v)) (sym (has_drop n v w ln) ∙ h) in
+        let x = new w p.0 in
+        (has_or met (single v) w ∙ or_from _ _ x.0 (has_single v w ∙ ne_eqb v w (λ same. both_ways _ (not-true _ p.1) (eq-eqb w v (sym same)))), x.1)
 
--- one step more, from u to v
-pub walking_step : (t : Table) → Sound t → (w : Walk) (met : BaselineSet) (u v : ℕ) → Walking t w → has w.met.bits u ≡ true
-    → v < 64 → has (minus (row t u) w.met.bits) v ≡ true → met.bits ≡ put w.met.bits v
-    → Walking t (record { root = w.root; met = met; steps = set w.steps w.taken (u, v); taken = w.taken + 1 })
-walking_step t sound w met u v was mu l new e =
-    let long = was.long in
-    let fits = was.fits in
-    let list : reverse (take (w.taken + 1) (set w.steps w.taken (u, v))) ≡ (u, v) ∷ steps_of w =
-    ap reverse (take_more_set w.steps w.taken (u, v) (omega arith)) ∙ reverse_push (take w.taken w.steps) (u, v) in
-    let is : met.bits ≡ bit_or w.met.bits (single v) = e ∙ put_is w.met.bits v l in
-    let p : (has (row t u) v ≡ true) × (not (has w.met.bits v) ≡ true) = and_parts _ _ (sym (has_minus (row t u) w.met.bits v) ∙ new) in
-    let stepped : Steps t w.root ((u, v) ∷ steps_of w) (bit_or w.met.bits (single v)) =
-    more was.steps mu (not-true _ p.1) (sym (row_has t sound u v) ∙ p.0) in
-    let steps : Steps t w.root (reverse (take (w.taken + 1) (set w.steps w.taken (u, v)))) met.bits =
-    subst (λ s. Steps t w.root s met.bits) (sym list) (subst (Steps t w.root ((u, v) ∷ steps_of w)) (sym is) stepped) in
-    record {
-      below = was.below;
-      long = simp length-set was.long;
-      small = rw is (or_lt 64 _ _ was.small (single_lt 64 v l));
-      fits = taken_few t sound w.root was.below _ (w.taken + 1) met.bits (simp length-set long) (omega arith) steps;
-      steps = steps;
-    }
+    either : (k : ℕ) → (k ≡ v) ⊎ (k ≡ v → ⊥) → has n v ≡ true → ((has met k || eqb v k) || (has n k && not (eqb k v))) ≡ (has met k || has n k)
+    either k (inl e) h = let on : has n k ≡ true = ap (has n) e ∙ h in rw on (grind (arith, nat_tests))
+    either k (inr ne) h = grind (arith, nat_tests)
+
+    same : has n v ≡ true → bit_or (bit_or met (single v)) (drop n v) ≡ bit_or met n
+    same h =
+        same_set 64 _ _ (or_lt 64 _ _ (or_lt 64 _ _ lm (single_lt 64 v (has_lt 64 n v ln h))) (drop_lt n v ln)) (or_lt 64 _ _ lm ln)
+        (λ k _. has_or _ (drop n v) k
+        ∙ ap₂ ◌||◌ (has_or met (single v) k ∙ ap (λ b. has met k || b) (has_single v k)) (has_drop n v k ln)
+        ∙ either k (cases_eq k v) h ∙ sym (has_or met n k))
+
+-- steps from u to all of n
+pub steps_all : (t : Table) (r u n met : ℕ) (taken : List (ℕ × ℕ)) → n < 2 ^ 64 → met < 2 ^ 64 → Steps t r (reverse taken) met → has met u ≡ true
+    → ((v : ℕ) → has n v ≡ true → (has met v ≡ false) × (t.shares u v ≡ true))
+    → Steps t r (reverse (taken ++ map (λ v. (u, v)) (members n))) (bit_or met n)
+steps_all t r u n met taken = steps_list t r u (members n) n met taken refl
+
+-- there is room for them
+pub steps_room : (t : Table) → Sound t → (r : ℕ) → r < t.count → (u : ℕ) (taken : List (ℕ × ℕ)) (l : List ℕ) {met : ℕ}
+    → Steps t r (reverse (taken ++ map (λ v. (u, v)) l)) met → length taken + length l < 64
+steps_room t sound r below u taken l steps =
+    let few = sound.few in
+    let new : List (ℕ × ℕ) = map (λ v. (u, v)) l in
+    let long : length new ≡ length l = length-map l (λ v. (u, v)) in
+    omega (arith, steps_few t sound r below steps, length-reverse (taken ++ new), length-append taken new, long)
+
+-- what shares with u and was not met
+pub row_new : (t : Table) → Sound t → (u all new met : ℕ) → all ≡ row t u → ((k : ℕ) → has new k ≡ (has all k && not (has met k)))
+    → (v : ℕ) → has new v ≡ true → (has met v ≡ false) × (t.shares u v ≡ true)
+row_new t sound u all new met e is v h =
+    let x = and_parts _ _ (sym (is v) ∙ h) in
+    (not-true _ x.1, sym (row_has t sound u v) ∙ ap (λ m. has m v) (sym e) ∙ x.0)
+
+-- so then all that share with u are met
+pub all_met : (t : Table) → Sound t → (u all new met met' : ℕ) → all ≡ row t u → ((k : ℕ) → has new k ≡ (has all k && not (has met k)))
+    → ((k : ℕ) → has met' k ≡ (has met k || has new k)) → (v : ℕ) → t.shares u v ≡ true → has met' v ≡ true
+all_met t sound u all new met met' e is is' v share =
+    let on : has all v ≡ true = ap (λ m. has m v) e ∙ row_has t sound u v ∙ share in
+    is' v ∙ ap (λ b. has met v || b) (is v ∙ ap (λ b. b && not (has met v)) on) ∙ either (has met v)
+  where
+    either : (b : Bool) → (b || (true && not b)) ≡ true
+    either true = refl
+    either false = refl
 
 -- where nothing is left of a row, all of it is met
 pub none_left : (m n v : ℕ) → minus m n ≡ 0 → has m v ≡ true → has n v ≡ true
@@ -103,7 +146,41 @@ visit_falls m m' u l new e =
     let is : how_many (has m') 64 ≡ how_many (has (bit_or m (single u))) 64 = ap (λ x. how_many (has x) 64) (e ∙ put_is m u l) in
     omega (arith, how_many_put m u 64 l new, how_many_le (has m') 64)
 
--- what a walk has met is the cluster of its root
-pub walked_reach : (t : Table) → Sound t → (w : Walk) → Walked t w → (v : ℕ) → (has w.met.bits v ≡ true) ↔ Reach t w.root v
-walked_reach t sound w walked v =
-    (steps_reach t sound w.root walked.walking.below walked.walking.steps v, walked.whole v)
+-- ---- a walk through the whole cluster
+
+-- its steps, and what they have met
+pub walked_steps : (t : Table) (root met : ℕ) (taken : List (ℕ × ℕ)) → Walked t root met taken → Steps t root (reverse taken) met
+unfolding goes_on met_by
+walked_steps t root met taken walked = subst (Steps t root (reverse taken)) (sym walked.met) (go (reverse taken) walked.along)
+  where
+    go : (steps : List (ℕ × ℕ)) → goes_on t root steps ≡ true → Steps t root steps (met_by root steps)
+    go [] h = none
+    go (s ∷ steps) h =
+        let x = and_parts (goes_on t root steps) _ h in
+        let y = and_parts _ _ x.1 in
+        let z = and_parts _ _ y.1 in
+        more (go steps x.0) y.0 (not-true _ z.0) z.1
+
+-- and the other way round
+pub steps_walked : (t : Table) (root met : ℕ) (taken : List (ℕ × ℕ)) → root < t.count → Steps t root (reverse taken) met
+    → ((v : ℕ) → Reach t root v → has met v ≡ true) → Walked t root met taken
+unfolding goes_on met_by
+steps_walked t root met taken below steps whole =
+    let x = go steps in record { below = below; along = x.0; met = x.1; whole = whole }
+  where
+    go : {steps : List (ℕ × ℕ)} {met : ℕ} → Steps t root steps met → (goes_on t root steps ≡ true) × (met ≡ met_by root steps)
+    go none = (refl, refl)
+    go (more {steps} {met} {p} {v} s was new share) =
+        let x = go s in (
+          and_from _ _ x.0 (and_from _ _ (ap (λ m. has m p) (sym x.1) ∙ was) (and_from _ _ (ap (λ m. not (has m v)) (sym x.1) ∙ ap not new) share)),
+          ap (λ m. bit_or m (single v)) x.1,
+        )
+
+-- what it has met is the cluster of its root
+pub walked_reach : (t : Table) → Sound t → (root met : ℕ) (taken : List (ℕ × ℕ)) → Walked t root met taken → (v : ℕ) → (has met v ≡ true) ↔ Reach t root v
+walked_reach t sound root met taken walked v =
+    (steps_reach t sound root walked.below (walked_steps t root met taken walked) v, walked.whole v)
+
+-- the root of a walk is a baseline
+pub root_low : (w : Walk) → w.root < 64
+root_low w = omega (arith, w.rows.now.few, w.walked.below)

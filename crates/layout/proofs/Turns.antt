@@ -15,8 +15,11 @@ use Rattle.theory.proofs.Begun.{imagers_length}
 use Rattle.theory.proofs.Held.{two_places}
 use Rattle.layout.specs.declared.numbering.Numbers.{Numbers}
 use Rattle.layout.specs.Numbers.{unnumbered, Begun, Numbered}
-use Rattle.layout.proofs.Marks.{marks}
 use Rattle.layout.proofs.Numbered.{upto, Numbering, numbering_begin}
+
+-- The doubtful baselines that entries tell.
+abbrev pub marks : List Entry → ℕ → Bool
+marks entries w = (get_or entries w blank).doubtful
 
 -- ---- the list of the stars
 

@@ -13,10 +13,10 @@ use Rattle.layout.specs.Tables.{bits_at}
 -- The clusters of the baselines below n are settled: each cluster is known by its lowest baseline, its root.
 pub record Settling (t : Table) (x : Clusters) (n : ℕ) : Type 0 where
   pub which : (v : ℕ) → v < t.count → (has x.settled.bits v ≡ true) ↔ (root t v < n)
-  pub settled : (v : ℕ) → v < t.count → root t v < n → Settled t (root t v) (bits_at x.near) (has x.doubtful.bits v)
+  pub settled : (v : ℕ) → v < t.count → root t v < n → Settled t (root t v) (bits_at x.near.near) (has x.doubtful.bits v)
   pub certain : (v : ℕ) → has x.settled.bits v ≡ false → has x.doubtful.bits v ≡ false
 
 -- All clusters are settled, or refusal 18 names the lowest baseline whose cluster has no layout.
 abbrev pub Answered : Table → Result Clusters Refusal → Type 0
-Answered t (Ok x) = (v : ℕ) → v < t.count → Settled t (root t v) (bits_at x.near) (has x.doubtful.bits v)
+Answered t (Ok x) = (v : ℕ) → v < t.count → Settled t (root t v) (bits_at x.near.near) (has x.doubtful.bits v)
 Answered t (Err e) = (i : ℕ) × (e ≡ NoLayout i) × Clash t i

@@ -1,24 +1,22 @@
 -- What a walk has met, and how.
-use Rattle.std.specs.Prelude.{◌≡◌, ℕ, ◌^◌, ◌<◌, true, List, reverse, length, take}
-use Rattle.bitset.specs.Sets.{has}
+use Rattle.std.specs.Prelude.{◌≡◌, ℕ, ◌<◌, Bool, true, not, ◌&&◌, List, [], ◌∷◌, reverse, bit_or}
+use Rattle.bitset.specs.Sets.{has, single}
 use Rattle.evidence.specs.Table.{Table}
 use Rattle.theory.specs.Clusters.{Reach}
-use Rattle.theory.specs.Walks.{Steps}
-use Rattle.layout.specs.declared.walk.Walk.{Walk}
 
--- The steps taken, the newest first.
-abbrev pub steps_of : Walk → List (ℕ × ℕ)
-steps_of w = reverse (take w.taken w.steps)
+-- What steps from r have met, the newest first.
+unfoldable pub met_by : ℕ → List (ℕ × ℕ) → ℕ
+met_by r [] = single r
+met_by r (s ∷ steps) = bit_or (met_by r steps) (single s.1)
 
--- A walk so far.
-pub record Walking (t : Table) (w : Walk) : Type 0 where
-  pub below : w.root < t.count
-  pub long : length w.steps ≡ 64
-  pub small : w.met.bits < 2 ^ 64
-  pub fits : w.taken < 64
-  pub steps : Steps t w.root (steps_of w) w.met.bits
+-- Each of the steps goes from a baseline met before to one not met that shares with it.
+unfoldable pub goes_on : Table → ℕ → List (ℕ × ℕ) → Bool
+goes_on t r [] = true
+goes_on t r (s ∷ steps) = goes_on t r steps && (has (met_by r steps) s.0 && (not (has (met_by r steps) s.1) && t.shares s.0 s.1))
 
--- A walk that has met the whole cluster of its root.
-pub record Walked (t : Table) (w : Walk) : Type 0 where
-  pub walking : Walking t w
-  pub whole : (v : ℕ) → Reach t w.root v → has w.met.bits v ≡ true
+-- A walk from a root has met the whole cluster, by these steps in their order.
+pub record Walked (t : Table) (root all : ℕ) (steps : List (ℕ × ℕ)) : Type 0 where
+  pub below : root < t.count
+  pub along : goes_on t root (reverse steps) ≡ true
+  pub met : all ≡ met_by root (reverse steps)
+  pub whole : (v : ℕ) → Reach t root v → has all v ≡ true

@@ -1,12 +1,14 @@
 //! The search on all clusters of a table.
 
-ghost use Rattle.std.specs.Prelude.{◌≡◌, ◌+◌, ◌<◌, false, MatchResult};
+ghost use Rattle.std.specs.Prelude.{◌≡◌, ℕ, ◌+◌, ◌<◌, false, if◌then◌else◌, IfOk, MatchResult};
 ghost use Rattle.bitset.specs.Sets.{has};
 ghost use Rattle.evidence.specs.declared.refusal.Refusal.TheVariants.{NoLayout};
 ghost use Rattle.theory.specs.Placed.{Clash};
 ghost use Rattle.layout.specs.Answered.{Settling, Answered};
+ghost use Rattle.layout.specs.Tables.{bits_at};
 ghost use Rattle.layout.specs.Told.{told};
 
+use super::near::NearStars;
 use super::rows::Rows;
 use super::settle::settle;
 use super::walk::Walk;
@@ -15,26 +17,40 @@ use evidence::Refusal;
 
 // The near stars of the baselines whose clusters are settled, and which of these are doubtful.
 #[derive(Drop)]
-pub struct Clusters {
-    pub near: [BaselineSet; 64],
+pub struct Clusters<'a> {
+    pub near: NearStars<'a>,
     pub settled: BaselineSet,
     pub doubtful: BaselineSet,
 }
 
-impl Clusters {
-    // Settles the cluster of r, where those of all lower baselines are settled and r is in none of them.
-    fn add(&mut self, rows: &Rows, r: usize) -> Result<(), Refusal>
-        requires below { r < rows.now.count }
-        requires settling { Settling (told rows.now) self.old r }
-        requires fresh { has self.old.settled.bits r ≡ false }
-        ensures { MatchResult result (λ _. Settling (told rows.now) self.new (r + 1)) (λ e. (e ≡ NoLayout r) × Clash (told rows.now) r) }
+impl<'a> NearStars<'a> {
+    // Takes over the near stars of a cluster.
+    fn take_over(&mut self, cluster: BaselineSet, other: &NearStars<'a>)
+        ensures rows { self.new.rows.now ≡ self.old.rows.now }
+        ensures near { (v : ℕ) → bits_at self.new.near v ≡ (if has cluster.bits v then bits_at other.now.near v else bits_at self.old.near v) }
     {
-        let walk = Walk::of_cluster(rows, r);
-        let Some(doubtful) = settle(rows, &walk, &mut self.near) else {
+        for v in cluster {
+            self.near[v] = other.near[v];
+        }
+    }
+}
+
+impl<'a> Clusters<'a> {
+    // Settles the cluster of r, where those of all lower baselines are settled and r is in none of them.
+    fn add(&mut self, r: usize) -> Result<(), Refusal>
+        requires below { r < self.old.near.rows.now.count }
+        requires settling { Settling (told self.old.near.rows.now) self.old r }
+        requires fresh { has self.old.settled.bits r ≡ false }
+        ensures rows { self.new.near.rows.now ≡ self.old.near.rows.now }
+        ensures added { MatchResult result (λ _. Settling (told self.old.near.rows.now) self.new (r + 1)) (λ e. (e ≡ NoLayout r) × Clash (told self.old.near.rows.now) r) }
+    {
+        let walk = Walk::of_cluster(self.near.rows, r);
+        let Some(cluster) = settle(&walk) else {
             return Err(Refusal::NoLayout(r));
         };
+        self.near.take_over(walk.met, &cluster.near);
         self.settled = self.settled.union(walk.met);
-        if doubtful {
+        if cluster.doubtful {
             self.doubtful = self.doubtful.union(walk.met);
         }
         Ok(())
@@ -42,17 +58,22 @@ impl Clusters {
 }
 
 // Settles all clusters, each from its lowest baseline; refused with 18 at the first that has no layout.
-pub fn settle_all(rows: &Rows) -> Result<Clusters, Refusal>
-    ensures { Answered (told rows.now) result }
+pub fn settle_all<'a>(rows: &'a Rows) -> Result<Clusters<'a>, Refusal>
+    ensures rows { IfOk result (λ x. x.near.rows.now ≡ rows.now) }
+    ensures answered { Answered (told rows.now) result }
 {
-    let mut found = Clusters {
+    let near = NearStars {
+        rows,
         near: [BaselineSet::empty(); 64],
+    };
+    let mut found = Clusters {
+        near,
         settled: BaselineSet::empty(),
         doubtful: BaselineSet::empty(),
     };
     for r in 0..rows.count {
         if !found.settled.has(r) {
-            found.add(rows, r)?;
+            found.add(r)?;
         }
     }
     Ok(found)

@@ -4,6 +4,7 @@
 
 // The table as rows, and the stars that they tell.
 mod load;
+mod near;
 mod rows;
 mod stars;
 

@@ -7,6 +7,7 @@ ghost use Rattle.layout.specs.Told.{told};
 use super::rows::Rows;
 use bitset::BaselineSet;
 use evidence::Evidence;
+use std::array;
 
 // The baselines that share with i.
 fn load_row<E: Evidence>(evidence: &E, i: usize) -> BaselineSet
@@ -26,9 +27,12 @@ pub fn load<E: Evidence>(evidence: &E) -> Rows
     ensures { told result ≡ E.Evidence.meaning evidence.now }
 {
     let count = evidence.count();
-    let mut rows = [BaselineSet::empty(); 64];
-    for i in 0..count {
-        rows[i] = load_row(evidence, i);
-    }
+    let rows = array::from_fn(|i| {
+        if i < count {
+            load_row(evidence, i)
+        } else {
+            BaselineSet::empty()
+        }
+    });
     Rows { count, rows }
 }

@@ -9,18 +9,16 @@ ghost use Rattle.layout.specs.Numbers.{given, unnumbered, Given, Begun, Numbered
 ghost use Rattle.layout.specs.Tables.{bits_at};
 ghost use Rattle.layout.specs.Told.{told};
 
-use super::rows::Rows;
+use super::near::NearStars;
 use bitset::BaselineSet;
-use theory::{Entry, Record};
+use std::array;
+use theory::Entry;
 
 // The second lowest baseline of a star, or 64 where there is none.
 fn second(a: BaselineSet) -> usize
     ensures { result ≡ second a.bits }
 {
-    let Some(first) = a.lowest() else {
-        return 64;
-    };
-    a.without(first).lowest().unwrap_or(64)
+    a.into_iter().nth(1).unwrap_or(64)
 }
 
 // Two stars, the one with the lower second baseline first.
@@ -31,23 +29,6 @@ fn in_order(a: BaselineSet, b: BaselineSet) -> (BaselineSet, BaselineSet)
         (a, b)
     } else {
         (b, a)
-    }
-}
-
-// The entry with one imager more: its lower one, or where it has that already its higher one.
-fn with_imager(entry: Entry, has_lower: bool, imager: u8) -> Entry
-    ensures { result ≡ given entry has_lower imager }
-{
-    if has_lower {
-        Entry {
-            higher: imager,
-            ..entry
-        }
-    } else {
-        Entry {
-            lower: imager,
-            ..entry
-        }
     }
 }
 
@@ -66,10 +47,12 @@ impl Numbers {
         requires long { length self.old.entries ≡ 64 }
         ensures { Given self.old a.bits self.new }
     {
-        let mut rest = a;
-        while let Some(w) = rest.lowest() {
-            self.entries[w] = with_imager(self.entries[w], self.begun.has(w), self.next);
-            rest = rest.without(w);
+        for w in a {
+            if self.begun.has(w) {
+                self.entries[w].higher = self.next;
+            } else {
+                self.entries[w].lower = self.next;
+            }
         }
         self.begun = self.begun.union(a);
         self.next += 1;
@@ -82,10 +65,8 @@ impl Numbers {
         requires long { length self.old.entries ≡ 64 }
         ensures { Begun self.old v a.bits self.new }
     {
-        if let Some(first) = a.lowest() {
-            if first == v {
-                self.give(a);
-            }
+        if a.lowest() == Some(v) {
+            self.give(a);
         }
     }
 }
@@ -96,26 +77,27 @@ fn doubts(count: usize, doubtful: BaselineSet) -> [Entry; 64]
     ensures long { length result ≡ 64 }
     ensures told { (w : ℕ) → slice_index_or result w blank ≡ unnumbered (nat_lt w count && has doubtful.bits w) }
 {
-    let mut entries = Record::new().entries;
-    for v in 0..count {
-        entries[v].doubtful = doubtful.has(v);
-    }
-    entries
+    array::from_fn(|v| Entry {
+        lower: 0,
+        higher: 0,
+        doubtful: v < count && doubtful.has(v),
+    })
 }
 
 // Numbers all imagers: the stars that begin at a lower baseline first, and of two that begin at one baseline the one
 // with the lower second baseline.
-pub fn number(rows: &Rows, near: &[BaselineSet; 64], doubtful: BaselineSet) -> Numbers
-    requires { Stars (told rows.now) (λ v. v < rows.now.count) (star (told rows.now) (bits_at near.now)) }
-    ensures { Numbered (told rows.now) (bits_at near.now) doubtful.bits result }
+pub fn number(near: &NearStars, doubtful: BaselineSet) -> Numbers
+    requires { Stars (told near.now.rows.now) (λ v. v < near.now.rows.now.count) (star (told near.now.rows.now) (bits_at near.now.near)) }
+    ensures { Numbered (told near.now.rows.now) (bits_at near.now.near) doubtful.bits result }
 {
+    let count = near.rows.count;
     let mut numbers = Numbers {
-        entries: doubts(rows.count, doubtful),
+        entries: doubts(count, doubtful),
         begun: BaselineSet::empty(),
         next: 0,
     };
-    for v in 0..rows.count {
-        let (one, two) = in_order(near[v], rows.far(v, near[v]));
+    for v in 0..count {
+        let (one, two) = in_order(near.near[v], near.far(v));
         numbers.begin(v, one);
         numbers.begin(v, two);
     }

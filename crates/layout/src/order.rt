@@ -1,39 +1,37 @@
 //! The order of preference among the starts of a cluster.
 
-ghost use Rattle.std.specs.Prelude.{◌≡◌, true};
-ghost use Rattle.layout.specs.Order.{Next};
+ghost use Rattle.std.specs.Iterator.{YieldsFirst, item_count};
+ghost use Rattle.layout.specs.Order.{starts_left};
 
 use bitset::BaselineSet;
 
-// The starts that were not tried yet: the one that crosses none, and those with these crosses.
+// The starts that were not tried yet.
 #[derive(Drop)]
-pub struct Starts {
-    pub plain: bool,
-    pub crosses: BaselineSet,
+pub enum Starts {
+    // The one that crosses none, and then those with these crosses.
+    All(BaselineSet),
+    // Those with these crosses, the highest first.
+    Crossing(BaselineSet),
 }
 
-impl Starts {
-    // All starts with these crosses, none of them tried.
-    pub fn all(crosses: BaselineSet) -> Self
-        ensures plain { result.plain ≡ true }
-        ensures crosses { result.crosses ≡ crosses }
-    {
-        Starts {
-            plain: true,
-            crosses,
-        }
-    }
+impl Iterator for Starts {
+    type Item = Option<usize>;
 
-    // The next start: the one that crosses none is preferred, then the highest cross.
-    pub fn next(&mut self) -> Option<Option<usize>>
-        ensures { Next self.old self.new result }
-    {
-        if self.plain {
-            self.plain = false;
-            return Some(None);
+    ghost next_gives = { YieldsFirst starts_left };
+
+    ghost remaining = { item_count starts_left };
+
+    fn next(&mut self) -> Option<Option<usize>> {
+        match *self {
+            Starts::All(crosses) => {
+                *self = Starts::Crossing(crosses);
+                Some(None)
+            }
+            Starts::Crossing(crosses) => {
+                let x = crosses.highest()?;
+                *self = Starts::Crossing(crosses.without(x));
+                Some(Some(x))
+            }
         }
-        let x = self.crosses.highest()?;
-        self.crosses = self.crosses.without(x);
-        Some(Some(x))
     }
 }

@@ -17,7 +17,7 @@ fn place_rows(rows: &Rows, record: &mut Record) -> Result<usize, Refusal>
     ensures few { IfOk result (λ imagers. imagers ≤ 128) }
 {
     let found = settle_all(rows)?;
-    let numbers = number(rows, &found.near, found.doubtful);
+    let numbers = number(&found.near, found.doubtful);
     let entries = numbers.entries;
     *record = Record { entries };
     Ok(numbers.next as usize)

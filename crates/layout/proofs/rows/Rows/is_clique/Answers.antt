@@ -1,24 +1,26 @@
-use Rattle.std.proofs.Common.{sym, ap, ◌∙◌, rules}
-use Rattle.std.proofs.lemmas.Bool.{both_ways, eq-eqb}
-use Rattle.bitset.specs.Sets.{minus, put, Lowest}
+use Rattle.std.proofs.Common.{◌≡◌, ℕ, ◌≢◌, ◌^◌, ◌<◌, rules}
+use borrow.Author.Tests.{tests}
+use Rattle.bitset.specs.Sets.{minus, put}
+use Rattle.bitset.proofs.Chains.{members_come, serves_from_members, each_from_all, true_from_each}
+use Rattle.theory.specs.Stars.{row}
 use Rattle.layout.specs.Told.{told}
 use Rattle.layout.proofs.Tells.{sound_told}
-use Rattle.layout.proofs.Each.{each_falls}
 use Rattle.layout.proofs.FirstStars.{clique_within}
 use Rattle.layout.proofs.rows.Rows.is_clique.Goals as goal
 
-pub loop-v-smaller : goal.loop-v-smaller
-loop-v-smaller c =
-    let low : Lowest c.loop-v.rest.bits c.in-Some.v = c.in-Some.ensures in
-    each_falls c.loop-v.rest.bits c.without-rest.result.bits c.in-Some.v c.without-rest.ensures.members
-    c.loop-v.invariant.0 (search rules) low.below low.member
+pub all-requires-clause-callable : goal.all-requires-clause-callable
+all-requires-clause-callable c =
+    serves_from_members c.args.a.bits (members_come c.into_iter.result c.args.a c.into_iter.ensures.into_iter_gives)
+    (λ x q k. search (rules, tests)) (λ x low h. search rules)
 
-pub returns-then-not-is_empty : goal.returns-then-not-is_empty
-returns-then-not-is_empty c clique =
-    let v = c.in-Some.v in
-    let low : Lowest c.loop-v.rest.bits v = c.in-Some.ensures in
-    absurd (both_ways _ (sym c.is_empty.ensures ∙ c.if-not-is_empty.true)
-    (eq-eqb _ _ (c.minus.ensures.bits
-    ∙ ap (minus c.args.a.bits) (c.with.ensures.bits ∙ ap (λ m. put m v) c.row.ensures)
-    ∙ clique_within (told c.args.self.now) (sound_told c.args.self.now) c.args.a.bits v (search rules) low.below
-    (λ w. clique v w (c.loop-v.invariant.1 v low.member)))))
+pub returns : goal.returns
+returns c clique =
+    let t = told c.args.self.now in
+    let a = c.args.a.bits in
+    let small : a < 2 ^ 64 = search rules in
+    let Yes : ℕ → Type 0 = λ v. minus a (put (row t v) v) ≡ 0 in
+    let No : ℕ → Type 0 = λ v. minus a (put (row t v) v) ≢ 0 in
+    true_from_each a Yes No c.all.result (λ v p q. q p) small
+    (each_from_all a (members_come c.into_iter.result c.args.a c.into_iter.ensures.into_iter_gives) c.all.new.self _ c.all.result Yes No small c.all.ensures.ran
+    (λ x q k. search (rules, tests)) (λ x q k. search (rules, tests)))
+    (λ v low h. clique_within t (sound_told c.args.self.now) a v small low (λ w. clique v w h))
