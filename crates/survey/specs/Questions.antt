@@ -2,7 +2,7 @@
 use Rattle.std.specs.Prelude.{◌≡◌, ℕ, ◌+◌, Bool, not, ◌&&◌, List, [], ◌∷◌, ◌++◌, length, Some, None, Ok, Err, Result, ◌==◌, nat_le, nat_lt}
 use Rattle.evidence.specs.declared.refusal.Refusal.{Refusal}
 use Rattle.evidence.specs.declared.refusal.Refusal.TheVariants.{IssueOpen, NoSpan, PastCount, SameBaseline, Unresolved, ManyIssues, WrongPaper, NoRoom}
-use Rattle.evidence.specs.Refusals.{Question, first_no}
+use Rattle.evidence.specs.Refusals.{Question, first_no, pair_questions}
 use Rattle.evidence.specs.Changes.{grow_questions, set_questions}
 use Rattle.survey.specs.declared.papers.Paper.{Paper}
 use Rattle.survey.specs.Views.{View, idle, has_layout}
@@ -37,9 +37,6 @@ withdraw_questions v p = (admits v p, WrongPaper) ∷ []
 -- What is asked about one baseline, and about two.
 abbrev pub one_questions : View → ℕ → List Question
 one_questions v i = (nat_lt i v.table.count, PastCount) ∷ (has_layout v.state, Unresolved) ∷ []
-
-abbrev pub pair_questions : ℕ → ℕ → ℕ → List Question
-pair_questions count i j = (nat_lt i count && nat_lt j count, PastCount) ∷ (not (i == j), SameBaseline) ∷ []
 
 abbrev pub two_questions : View → ℕ → ℕ → List Question
 two_questions v i j = pair_questions v.table.count i j ++ ((has_layout v.state, Unresolved) ∷ [])

@@ -1,7 +1,6 @@
 //! What a resolved survey tells of its baselines.
 
 ghost use Rattle.std.specs.Prelude.{◌≡◌};
-ghost use Rattle.survey.specs.Questions.{Answers, pair_questions};
 ghost use Rattle.survey.specs.Told.{EntryTold, together};
 ghost use Rattle.survey.specs.History.{AskEnds, AskCommon, AskDoubt};
 ghost use Rattle.survey.specs.Runs.{Leads};
@@ -9,7 +8,7 @@ ghost use Rattle.survey.specs.Views.{view};
 
 use super::state::State;
 use super::survey::Survey;
-use evidence::{Ledger, Refusal};
+use evidence::{Ledger, Refusal, ask_pair};
 use theory::Entry;
 
 impl<L: Ledger> Survey<L> {
@@ -27,7 +26,7 @@ impl<L: Ledger> Survey<L> {
     pub fn common(&self, i: usize, j: usize) -> Result<Option<u8>, Refusal>
         ensures { Leads L.Evidence L.Ledger.own self.now (AskCommon i j result) self.now }
     {
-        are_two(i, j, self.ledger.count())?;
+        ask_pair(self.ledger.count(), i, j)?;
         Ok(together(self.entry_of(i)?, self.entry_of(j)?))
     }
 
@@ -53,19 +52,6 @@ impl<L: Ledger> Survey<L> {
             }
         }
     }
-}
-
-// Are these the numbers of two baselines?
-fn are_two(i: usize, j: usize, count: usize) -> Result<(), Refusal>
-    ensures { Answers (pair_questions count i j) (λ done. Unit {0}) (Unit {0}) result }
-{
-    if i >= count || j >= count {
-        return Err(Refusal::PastCount);
-    }
-    if i == j {
-        return Err(Refusal::SameBaseline);
-    }
-    Ok(())
 }
 
 // The imager that two baselines have together.

@@ -8,7 +8,7 @@ use arrayvec::ArrayVec;
 use evidence::Ledger;
 
 /// What a resolved survey has: so many imagers, and so many doubtful baselines.
-#[derive(Clone, Copy)]
+#[derive(Clone, Copy, PartialEq, Eq, Debug)]
 pub struct Resolution {
     pub imagers: usize,
     pub doubtful: usize,

@@ -3,7 +3,7 @@
 use evidence::{Ledger, Refusal};
 use ledgers::{PairList, WordGrid};
 use std::process::Abort;
-use survey::Survey;
+use survey::{Resolution, Survey};
 
 /// Enlists so many baselines in a survey that has none.
 pub fn enlist<L: Ledger>(rt: &impl Abort, survey: &mut Survey<L>, count: usize) {
@@ -12,17 +12,17 @@ pub fn enlist<L: Ledger>(rt: &impl Abort, survey: &mut Survey<L>, count: usize) 
     }
 }
 
-// How many imagers and doubtful baselines a resolve answers.
-fn resolved<L: Ledger>(survey: &mut Survey<L>) -> Result<(usize, usize), Refusal> {
-    let found = survey.resolve()?;
-    Ok((found.imagers, found.doubtful))
-}
-
 // Two baselines that share, and two that share with none.
 fn one_pair<L: Ledger>(rt: &impl Abort, survey: &mut Survey<L>) {
     assert_eq!(rt; survey.share(1, 0), Ok(true));
     assert_eq!(rt; survey.ends(0), Err(Refusal::Unresolved));
-    assert_eq!(rt; resolved(survey), Ok((7, 0)));
+    assert_eq!(rt;
+        survey.resolve(),
+        Ok(Resolution {
+            imagers: 7,
+            doubtful: 0
+        })
+    );
     assert_eq!(rt; survey.ends(0), Ok((0, 1)));
     assert_eq!(rt; survey.ends(1), Ok((0, 2)));
     assert_eq!(rt; survey.common(1, 0), Ok(Some(0)));
@@ -37,12 +37,18 @@ fn three_and_claw<L: Ledger>(rt: &impl Abort, survey: &mut Survey<L>) {
     assert_eq!(rt; survey.share(0, 2), Ok(true));
     assert_eq!(rt; survey.share(1, 2), Ok(true));
     assert_eq!(rt; survey.doubtful(1), Err(Refusal::Unresolved));
-    assert_eq!(rt; resolved(survey), Ok((6, 3)));
+    assert_eq!(rt;
+        survey.resolve(),
+        Ok(Resolution {
+            imagers: 6,
+            doubtful: 3
+        })
+    );
     assert_eq!(rt; survey.doubtful(1), Ok(true));
     assert_eq!(rt; survey.doubtful(3), Ok(false));
     assert_eq!(rt; survey.part(1, 2), Ok(true));
     assert_eq!(rt; survey.share(3, 0), Ok(true));
-    assert_eq!(rt; resolved(survey), Err(Refusal::NoLayout(0)));
+    assert_eq!(rt; survey.resolve(), Err(Refusal::NoLayout(0)));
     assert_eq!(rt; survey.doubtful(1), Err(Refusal::Unresolved));
 }
 
