@@ -1,47 +1,31 @@
 -- The test that asks each star once passes just where near stars are a system of stars.
-use Rattle.std.proofs.Common.{◌≡◌, ℕ, ◌^◌, ◌<◌, Bool, true, false, not, ◌&&◌, ◌||◌, eqb, ◌↔◌, MatchBool, sym, refl, ap, ◌∙◌, subst, ⊎_elim, arith}
+use Rattle.std.proofs.Common.{◌≡◌, ℕ, ◌^◌, ◌<◌, Bool, true, false, not, ◌&&◌, ◌||◌, eqb, ◌↔◌, MatchBool, sym, refl, ap, ◌∙◌, ⊎_elim}
 use lib.Bits.{bit_or}
 use Rattle.std.proofs.lemmas.Bool.{and_parts, and_from, or_cases, or_left, eqb-true, eq-eqb, ne_eqb, cond-true, cond-false, cond_both, cases_eq, both_ways, false≢true, false_from_ne_true}
-use Rattle.std.proofs.lemmas.Bool.Decides.{nat_tests}
 use Rattle.bitset.specs.Sets.{has, minus, single, lowest, Lowest}
 use Rattle.bitset.proofs.Members.{not_empty, has_or, has_minus, has_single, has_none, has_lt, lowest_is}
 use Rattle.evidence.specs.Table.{Table, Sound}
-use Rattle.theory.specs.Clusters.{Reach, step}
+use Rattle.theory.specs.Clusters.{Reach}
 use Rattle.theory.specs.Stars.{row, far, star, Stars}
 use Rattle.theory.specs.Walks.{cluster}
 use Rattle.theory.specs.Search.{agreed, fits_at, verified}
 use Rattle.theory.proofs.Rows.{row_has}
-use Rattle.theory.proofs.Reaches.{reach_below}
+use Rattle.theory.proofs.Reaches.{reach_lt}
 use Rattle.theory.proofs.Walks.{walk_cluster}
 use Rattle.theory.proofs.StarFacts.{far_has, far_lt}
-use Rattle.theory.proofs.Verify.{all_tells, verified_stars, stars_verified}
+use Rattle.theory.proofs.Verify.{all_tells, imp_at, imp_from, no_other, in_far, near_reach, verified_stars, stars_verified}
 use Rattle.layout.specs.declared.walk.Walk.{Walk}
 use Rattle.layout.specs.Quick.{star_of, quick, near_fits, quick_at}
 use Rattle.layout.specs.Told.{told}
 use Rattle.layout.proofs.Tells.{sound_told}
 use Rattle.layout.proofs.Steps.{walked_reach}
 
--- a test that is asked for only where another passes
-asked : (a b : Bool) → (not a || b) ≡ true → a ≡ true → b ≡ true
-asked a b h k = grind (arith, nat_tests)
-
-ask : (a b : Bool) → (a ≡ true → b ≡ true) → (not a || b) ≡ true
-ask true b h = h refl
-ask false b h = refl
-
--- what is in a set that holds nothing but v and what shares with v
-inside : (x r a : Bool) → (a && not (x || r)) ≡ false → a ≡ true → (x || r) ≡ true
-inside x r a h k = grind (arith, nat_tests)
-
-inside_far : (x r a : Bool) → (x || (r && not a)) ≡ true → (x || r) ≡ true
-inside_far x r a h = grind (arith, nat_tests)
-
 -- a star is agreed on just where each baseline of it has it
 pub agreed_tells : (t : Table) (near : ℕ → ℕ) (a : ℕ) → (agreed t near a ≡ true) ↔ ((w : ℕ) → w < 64 → has a w ≡ true → star_of t near a w ≡ true)
 unfolding agreed star_of
 agreed_tells t near a = (
-  λ h w l k. asked (has a w) _ ((all_tells _ 64).0 h w l) k,
-  λ h. (all_tells _ 64).1 (λ w l. ask (has a w) _ (h w l)),
+  λ h w l k. imp_at (has a w) _ ((all_tells _ 64).0 h w l) k,
+  λ h. (all_tells _ 64).1 (λ w l. imp_from (has a w) _ (h w l)),
 )
 
 -- so whoever asks each baseline of it learns whether it is agreed on
@@ -62,14 +46,10 @@ agreed_quick t near v a l h k =
     (λ _. (agreed_tells t near a).0 k (lowest a) low.below low.member)
 
 module _ (t : Table) (sound : Sound t) (r : ℕ) (below : r < t.count) (near : ℕ → ℕ) (small : (v : ℕ) → Reach t r v → near v < 2 ^ 64) where
-  -- the baselines of the cluster are below 64
-  reach_lt : (v : ℕ) → Reach t r v → v < 64
-  reach_lt v c = omega (arith, sound.few, reach_below t sound below c)
-
   -- their stars are sets of baselines
   star_small : (v : ℕ) (s : Bool) → Reach t r v → star t near v s < 2 ^ 64
   star_small v true c = small v c
-  star_small v false c = far_lt t v _ (reach_lt v c)
+  star_small v false c = far_lt t v _ (reach_lt t sound below c)
 
   -- v is in its stars, and they hold nothing but v and what shares with v
   star_self : (v : ℕ) (s : Bool) → near_fits t near v ≡ true → has (star t near v s) v ≡ true
@@ -85,10 +65,10 @@ module _ (t : Table) (sound : Sound t) (r : ℕ) (below : r < t.count) (near : �
   star_inside : (v : ℕ) (s : Bool) (w : ℕ) → near_fits t near v ≡ true → has (star t near v s) w ≡ true → (eqb v w || t.shares v w) ≡ true
   unfolding near_fits
   star_inside v true w h k =
-      inside (eqb v w) (t.shares v w) (has (near v) w)
+      no_other (eqb v w) (t.shares v w) (has (near v) w)
       (sym (other_has v w) ∙ ap (λ m. has m w) (eqb-true _ _ (and_parts _ _ h).1) ∙ has_none w)
       k
-  star_inside v false w h k = inside_far (eqb v w) (t.shares v w) (has (near v) w) (sym (far_has sound v (near v) w) ∙ k)
+  star_inside v false w h k = in_far (eqb v w) (t.shares v w) (has (near v) w) (sym (far_has sound v (near v) w) ∙ k)
 
   -- ---- what passes the quick test everywhere passes the test
 
@@ -124,9 +104,7 @@ module _ (t : Table) (sound : Sound t) (r : ℕ) (below : r < t.count) (near : �
         low = lowest_is a (not_empty a v (star_self v s (passed_fits v c))) (star_small v s c)
 
         u_reach : Reach t r (lowest a)
-        u_reach =
-            ⊎_elim (λ e. subst (Reach t r) (eqb-true v _ e) c) (λ e. step c e)
-            (or_cases _ _ (star_inside v s (lowest a) (passed_fits v c) low.member))
+        u_reach = near_reach t r v (lowest a) c (star_inside v s (lowest a) (passed_fits v c) low.member)
 
         elsewhere : (lowest a ≡ v → ⊥) → agreed t near a ≡ true
         elsewhere ne =
@@ -137,7 +115,7 @@ module _ (t : Table) (sound : Sound t) (r : ℕ) (below : r < t.count) (near : �
     passed_verified : verified t r near ≡ true
     unfolding verified fits_at near_fits
     passed_verified =
-        (all_tells _ 64).1 (λ v _. ask (has (cluster t r) v) _ (λ h.
+        (all_tells _ 64).1 (λ v _. imp_from (has (cluster t r) v) _ (λ h.
         let c = (walk_cluster t sound r below v).0 h in
         and_from _ _ (passed_fits v c) (and_from _ _ (star_agreed v true c) (star_agreed v false c))))
 
@@ -150,7 +128,7 @@ module _ (t : Table) (sound : Sound t) (r : ℕ) (below : r < t.count) (near : �
   pub stars_quick : Stars t (Reach t r) (star t near) → (v : ℕ) → Reach t r v → quick_at t near v ≡ true
   unfolding verified fits_at near_fits quick_at
   stars_quick good v c =
-      let fits = asked _ _ ((all_tells _ 64).0 (stars_verified t sound r below near good (λ v _. (true, refl))) v (reach_lt v c)) ((walk_cluster t sound r below v).1 c) in
+      let fits = imp_at _ _ ((all_tells _ 64).0 (stars_verified t sound r below near good (λ v _. (true, refl))) v (reach_lt t sound below c)) ((walk_cluster t sound r below v).1 c) in
       let x = and_parts _ _ fits in
       let y = and_parts _ _ x.1 in
       and_from _ _ x.0

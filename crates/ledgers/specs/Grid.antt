@@ -2,11 +2,8 @@
 use Rattle.std.specs.Prelude.{ℕ, List, slice_index_or}
 use Rattle.bitset.specs.declared.set.BaselineSet.{BaselineSet}
 use Rattle.bitset.specs.Sets.{has}
+pub use Rattle.bitset.specs.Empty.{none}
 use Rattle.evidence.specs.Table.{Table}
-
--- The set with no member.
-abbrev pub none : BaselineSet
-none = record { bits = 0 }
 
 -- Two baselines share when the row of the one has the other.
 abbrev pub grid : ℕ → List BaselineSet → Table

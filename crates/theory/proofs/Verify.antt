@@ -22,15 +22,15 @@ unfolding all
 all_tells p n = Decides-below_and p (λ k. p k ≡ true) (all p) (λ k. (λ h. h, λ h. h)) refl (λ _. refl) n
 
 -- a test that is asked for only where another passes
-imp_at : (a b : Bool) → (not a || b) ≡ true → a ≡ true → b ≡ true
+pub imp_at : (a b : Bool) → (not a || b) ≡ true → a ≡ true → b ≡ true
 imp_at a b h k = grind (arith, nat_tests)
 
-imp_from : (a b : Bool) → (a ≡ true → b ≡ true) → (not a || b) ≡ true
+pub imp_from : (a b : Bool) → (a ≡ true → b ≡ true) → (not a || b) ≡ true
 imp_from true b h = h refl
 imp_from false b h = refl
 
 -- a is a set, x the baseline v, r what shares with v: where a holds nothing else, what is in a is v or shares with v
-no_other : (x r a : Bool) → (a && not (x || r)) ≡ false → a ≡ true → (x || r) ≡ true
+pub no_other : (x r a : Bool) → (a && not (x || r)) ≡ false → a ≡ true → (x || r) ≡ true
 no_other x r a h k = grind (arith, nat_tests)
 
 -- and the other of the other of a is a, if v is in it
@@ -38,14 +38,14 @@ other_other : (x r a : Bool) → (x ≡ true → a ≡ true) → (a && not (x ||
 other_other x r a h k = grind (arith, nat_tests)
 
 -- what is in the other of a is v or shares with v
-in_far : (x r a : Bool) → (x || (r && not a)) ≡ true → (x || r) ≡ true
+pub in_far : (x r a : Bool) → (x || (r && not a)) ≡ true → (x || r) ≡ true
 in_far x r a h = grind (arith, nat_tests)
 
 none_else : (x r b : Bool) → ((x || (r && b)) && not (x || r)) ≡ false
 none_else x r b = grind (arith, nat_tests)
 
 -- v or what shares with v is in the cluster, if v is
-near_reach : (t : Table) (r v w : ℕ) → Reach t r v → (eqb v w || t.shares v w) ≡ true → Reach t r w
+pub near_reach : (t : Table) (r v w : ℕ) → Reach t r v → (eqb v w || t.shares v w) ≡ true → Reach t r w
 near_reach t r v w c h = ⊎_elim (λ e. subst (Reach t r) (eqb-true v w e) c) (λ e. step c e) (or_cases _ _ h)
 
 module _ (t : Table) (sound : Sound t) (r : ℕ) (below : r < t.count) (near : ℕ → ℕ) where
