@@ -1,6 +1,6 @@
 -- The clusters are settled one after the other, each from its root.
 use Rattle.std.proofs.Common.{◌≡◌, ℕ, ◌+◌, ◌^◌, ◌<◌, ◌≤◌, Bool, true, false, cond, not, ◌&&◌, ◌||◌, ◌↔◌, [], sym, ap, ◌∙◌, subst, ⊎_elim, arith}
-use Rattle.std.proofs.lemmas.Bool.{or_cases, or_left, or_right, or_parts, both_ways, cases_lt, cases_eq, cond-true, cond-false, false_from_ne_true}
+use Rattle.std.proofs.lemmas.Bool.{or_cases, or_left, or_right, or_parts, both_ways, cases_lt, cases_eq, false_from_ne_true}
 use Rattle.std.proofs.lemmas.Bool.Decides.{nat_tests}
 use Rattle.bitset.specs.Sets.{has}
 use Rattle.bitset.proofs.Members.{has_none}
@@ -41,7 +41,7 @@ module _ (t : Table) (r : ℕ) (near near' : ℕ → ℕ) (same : (v : ℕ) → 
   }
 
   -- and they settle the cluster as they did
-  settled_alike : {doubtful : Bool} → Settled t r near doubtful → Settled t r near' doubtful
+  pub settled_alike : {doubtful : Bool} → Settled t r near doubtful → Settled t r near' doubtful
   settled_alike s = record {
     start = s.start;
     others = s.others;
@@ -171,34 +171,26 @@ pub settling_all : (t : Table) → Sound t → (x : Clusters) (n : ℕ) → t.co
 settling_all t sound x n l s v lv = s.settled v lv (let b = root_below t sound v lv in omega arith)
 
 -- the cluster of a walk was settled
-settling_here : (w : Walk) (before after : Clusters) (near : ℕ → ℕ) (doubtful : Bool)
+settling_here : (w : Walk) (before after : Clusters) (doubtful : Bool)
     → Settling (told w.rows.now) before w.root → has before.settled.bits w.root ≡ false
-    → ((v : ℕ) → bits_at after.near.near v ≡ cond (has w.met.bits v) (near v) (bits_at before.near.near v))
-    → Settled (told w.rows.now) w.root near doubtful
+    → ((v : ℕ) → (Reach (told w.rows.now) w.root v → ⊥) → bits_at after.near.near v ≡ bits_at before.near.near v)
+    → Settled (told w.rows.now) w.root (bits_at after.near.near) doubtful
     → ((v : ℕ) → has after.settled.bits v ≡ (has before.settled.bits v || has w.met.bits v))
     → ((v : ℕ) → has after.doubtful.bits v ≡ (has before.doubtful.bits v || (doubtful && has w.met.bits v)))
     → Settling (told w.rows.now) after (w.root + 1)
-settling_here w before after near doubtful s fresh is settled which doubts =
-    settling_more t (sound_told w.rows.now) before w.root w.walked.below s fresh after w.met.bits doubtful reaches
-    (λ v out. is v ∙ cond-false _ _ _ (false_from_ne_true _ (λ h. out ((reaches v).0 h))))
-    (settled_alike t w.root near (bits_at after.near.near) (λ v c. is v ∙ cond-true _ _ _ ((reaches v).1 c)) settled)
-    which doubts
-  where
-    t : Table
-    t = told w.rows.now
-
-    reaches : (v : ℕ) → (has w.met.bits v ≡ true) ↔ Reach t w.root v
-    reaches = walked_reach t (sound_told w.rows.now) w.root w.met.bits w.steps.items w.walked
+settling_here w before after doubtful s fresh =
+    settling_more (told w.rows.now) (sound_told w.rows.now) before w.root w.walked.below s fresh after w.met.bits doubtful
+    (walked_reach (told w.rows.now) (sound_told w.rows.now) w.root w.met.bits w.steps.items w.walked)
 
 -- the cluster of r, which was walked through, was settled
-pub settling_walk : (x : Rows) (r : ℕ) (w : Walk) → w.rows.now ≡ x → w.root ≡ r → (before after : Clusters) (near : ℕ → ℕ) (doubtful : Bool)
+pub settling_walk : (x : Rows) (r : ℕ) (w : Walk) → w.rows.now ≡ x → w.root ≡ r → (before after : Clusters) (doubtful : Bool)
     → Settling (told x) before r → has before.settled.bits r ≡ false
-    → ((v : ℕ) → bits_at after.near.near v ≡ cond (has w.met.bits v) (near v) (bits_at before.near.near v))
-    → Settled (told w.rows.now) w.root near doubtful
+    → ((v : ℕ) → (Reach (told w.rows.now) w.root v → ⊥) → bits_at after.near.near v ≡ bits_at before.near.near v)
+    → Settled (told w.rows.now) w.root (bits_at after.near.near) doubtful
     → ((v : ℕ) → has after.settled.bits v ≡ (has before.settled.bits v || has w.met.bits v))
     → ((v : ℕ) → has after.doubtful.bits v ≡ (has before.doubtful.bits v || (doubtful && has w.met.bits v)))
     → Settling (told x) after (r + 1)
-settling_walk x r w e f before after near doubtful s fresh is settled which doubts =
+settling_walk x r w e f before after doubtful s fresh kept settled which doubts =
     let P : Rows → Type 0 = λ x. Settling (told x) before r → Settling (told x) after (r + 1) in
     let Q : ℕ → Type 0 = λ q. has before.settled.bits q ≡ false → Settling (told w.rows.now) before q → Settling (told w.rows.now) after (q + 1) in
-    subst P e (subst Q f (λ fresh s. settling_here w before after near doubtful s fresh is settled which doubts) fresh) s
+    subst P e (subst Q f (λ fresh s. settling_here w before after doubtful s fresh kept settled which doubts) fresh) s

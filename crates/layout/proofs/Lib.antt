@@ -8,7 +8,6 @@ pub mod Spreads
 pub mod Quick
 pub mod FirstStars
 pub mod Attempts
-pub mod Found
 pub mod Preferred
 -- All clusters, the numbers of the imagers, and the answer.
 pub mod Taking

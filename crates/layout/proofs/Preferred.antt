@@ -1,10 +1,9 @@
 -- The starts in the order of preference, and those of them that pass.
-use Rattle.std.proofs.Common.{◌≡◌, ℕ, zero, suc, ◌+◌, Bool, true, false, cond, not, ◌&&◌, ◌||◌, eqb, List, [], ◌∷◌, ◌++◌, map, reverse, filter, All, Some, None, sym, refl, ap, ◌∙◌, subst, add-one, arith}
-use Rattle.std.specs.List.{range_with_len, list_any, AllByRecursion}
+use Rattle.std.proofs.Common.{◌≡◌, ℕ, zero, suc, ◌+◌, Bool, true, false, cond, not, ◌&&◌, eqb, List, [], ◌∷◌, ◌++◌, map, reverse, filter, All, Some, None, sym, refl, ap, ◌∙◌, subst, add-one, arith}
+use Rattle.std.specs.List.{range_with_len}
 use Rattle.std.proofs.lemmas.List.{reverse-append, map-id, append-nil}
 use Rattle.std.proofs.lemmas.List.Elements.{All-nil, All-cons, All-head, All-tail, All-append, All-map}
 use Rattle.std.proofs.lemmas.List.FromFn.{filter_of_map_range_with_len_more}
-use Rattle.std.proofs.lemmas.Bool.{cond-true, cond-false}
 use Rattle.bitset.specs.declared.set.BaselineSet.{BaselineSet}
 use Rattle.bitset.specs.Sets.{has, members, Highest}
 use Rattle.bitset.proofs.Rising.{members_none, members_last, members_each}
@@ -12,7 +11,7 @@ use Rattle.evidence.specs.Table.{Table}
 use Rattle.theory.specs.Search.{Start, between, passes, passing_below, passing, is_nil}
 use Rattle.layout.specs.declared.order.Starts.{Starts}
 use Rattle.layout.specs.declared.order.Starts.TheVariants.{All as Whole, Crossing}
-use Rattle.layout.specs.Order.{starts_left}
+use Rattle.layout.specs.Order.{starts_left, left, Found}
 
 -- ---- which start is next
 
@@ -83,24 +82,7 @@ passing_kept t r crosses e =
     ap (λ l. cond (passes t r None) (None ∷ l) l)
     (below_kept t r 64 ∙ ap (λ m. filter (passes t r) (map Some (reverse (filter (has m) (range_with_len 0 64))))) (sym e))
 
--- ---- the first that passes
-
-module _ {A : Type 0} (p : A → Bool) where
-  -- it comes first of those that are kept
-  pub first_kept : (xs : List A) (x : A) (ys : List A) → AllByRecursion (λ y. p y ≡ false) xs → p x ≡ true → filter p (xs ++ x ∷ ys) ≡ x ∷ filter p ys
-  first_kept [] x ys off on = cond-true _ _ _ on
-  first_kept (y ∷ xs) x ys off on = cond-false _ _ _ off.0 ∙ first_kept xs x ys off.1 on
-
-  -- where none passes, none is kept
-  pub none_kept : (xs : List A) → All (λ y. p y ≡ false) xs → filter p xs ≡ []
-  none_kept [] off = refl
-  none_kept (x ∷ xs) off = cond-false _ _ _ (All-head (λ y. p y ≡ false) x xs off) ∙ none_kept xs (All-tail (λ y. p y ≡ false) x xs off)
-
-  -- some passes just where some are kept
-  pub any_kept : (xs : List A) → list_any p xs ≡ not (is_nil (filter p xs))
-  any_kept [] = refl
-  any_kept (x ∷ xs) = ap (λ b. p x || b) (any_kept xs) ∙ either (p x)
-    where
-      either : (b : Bool) → (b || not (is_nil (filter p xs))) ≡ not (is_nil (cond b (x ∷ filter p xs) (filter p xs)))
-      either true = refl
-      either false = refl
+-- one is found just where one that passes is left
+pub found_some : (t : Table) (r : ℕ) (s s' : Starts) (near : ℕ → ℕ) (found : Bool) → Found t r s s' near found → found ≡ not (is_nil (left t r s))
+found_some t r s s' near true x = sym (ap (λ l. not (is_nil l)) x.1)
+found_some t r s s' near false e = sym (ap (λ l. not (is_nil l)) e)

@@ -1,11 +1,10 @@
 //! The search on all clusters of a table.
 
-ghost use Rattle.std.specs.Prelude.{◌≡◌, ℕ, ◌+◌, ◌<◌, false, if◌then◌else◌, IfOk, MatchResult};
+ghost use Rattle.std.specs.Prelude.{◌≡◌, ◌+◌, ◌<◌, false, IfOk, MatchResult};
 ghost use Rattle.bitset.specs.Sets.{has};
 ghost use Rattle.evidence.specs.declared.refusal.Refusal.TheVariants.{NoLayout};
 ghost use Rattle.theory.specs.Placed.{Clash};
 ghost use Rattle.layout.specs.Answered.{Settling, Answered};
-ghost use Rattle.layout.specs.Tables.{bits_at};
 ghost use Rattle.layout.specs.Told.{told};
 
 use super::near::NearStars;
@@ -23,18 +22,6 @@ pub struct Clusters<'a> {
     pub doubtful: BaselineSet,
 }
 
-impl<'a> NearStars<'a> {
-    // Takes over the near stars of a cluster.
-    fn take_over(&mut self, cluster: BaselineSet, other: &NearStars<'a>)
-        ensures rows { self.new.rows.now ≡ self.old.rows.now }
-        ensures near { (v : ℕ) → bits_at self.new.near v ≡ (if has cluster.bits v then bits_at other.now.near v else bits_at self.old.near v) }
-    {
-        for v in cluster {
-            self.near[v] = other.near[v];
-        }
-    }
-}
-
 impl<'a> Clusters<'a> {
     // Settles the cluster of r, where those of all lower baselines are settled and r is in none of them.
     fn add(&mut self, r: usize) -> Result<(), Refusal>
@@ -45,12 +32,11 @@ impl<'a> Clusters<'a> {
         ensures added { MatchResult result (λ _. Settling (told self.old.near.rows.now) self.new (r + 1)) (λ e. (e ≡ NoLayout r) × Clash (told self.old.near.rows.now) r) }
     {
         let walk = Walk::of_cluster(self.near.rows, r);
-        let Some(cluster) = settle(&walk) else {
+        let Some(doubtful) = settle(&walk, &mut self.near) else {
             return Err(Refusal::NoLayout(r));
         };
-        self.near.take_over(walk.met, &cluster.near);
         self.settled = self.settled.union(walk.met);
-        if cluster.doubtful {
+        if doubtful {
             self.doubtful = self.doubtful.union(walk.met);
         }
         Ok(())

@@ -13,16 +13,15 @@ use bitset::BaselineSet;
 impl<'a> NearStars<'a> {
     // Gives each baseline of the cluster a near star: the root the first star, and each other the star that the
     // baseline before it on the walk hands it.
-    pub fn spread(walk: &Walk<'a>, first: BaselineSet) -> Self
-        ensures rows { result.rows.now ≡ walk.now.rows.now }
-        ensures handed { (v : ℕ) → Reach (told walk.now.rows.now) walk.now.root v → Handed (told walk.now.rows.now) walk.now.root first.bits (bits_at result.near) v }
+    pub fn spread(&mut self, walk: &Walk<'a>, first: BaselineSet)
+        ensures rows { self.new.rows.now ≡ self.old.rows.now }
+        ensures handed { (v : ℕ) → Reach (told walk.now.rows.now) walk.now.root v → Handed (told walk.now.rows.now) walk.now.root first.bits (bits_at self.new.near) v }
     {
-        let rows = walk.rows;
-        let mut near = [BaselineSet::empty(); 64];
-        near[walk.root] = first;
+        self.near = [BaselineSet::empty(); 64];
+        self.near[walk.root] = first;
         for &(from, to) in walk.steps.as_slice() {
-            near[to] = rows.handed(from, near[from], to);
+            let near = self.near[from];
+            self.near[to] = walk.rows.handed(from, near, to);
         }
-        NearStars { rows, near }
     }
 }

@@ -1,6 +1,8 @@
+use Rattle.std.proofs.Common.{◌≡◌}
 use Rattle.layout.specs.Told.{told}
 use Rattle.layout.proofs.Spreads.{Spreading}
 use Rattle.layout.proofs.near.NearStars.spread.Given as goal
 
 abbrev pub invariant-loop-from : goal.invariant-loop-from
-invariant-loop-from l = Spreading (told l.walk.rows.now) l.walk.root l.fn.first.bits l.from-items l.near l.from-index
+invariant-loop-from l =
+    (l.self.rows ≡ l.initial.self.rows) × Spreading (told l.walk.rows.now) l.walk.root l.fn.first.bits l.from-items l.self.near l.from-index
