@@ -65,16 +65,21 @@ pub fn no_profile<L: Ledger>(
     }
 }
 
+// The refusal of a call, if it was refused.
+fn refusal<T: Drop>(answer: Result<T, Refusal>) -> Option<Refusal> {
+    answer.err()
+}
+
 /// The refusals of what an open issue does not admit: to enlist, share, part, resolve and begin.
 pub fn meanwhile<L: Ledger>(survey: &mut Survey<L>) -> [Option<Refusal>; 5]
     requires { idle (view L.Evidence L.Ledger.own survey.old).state ≡ false }
     ensures { view L.Evidence L.Ledger.own survey.new ≡ view L.Evidence L.Ledger.own survey.old }
 {
     [
-        survey.enlist(700).err(),
-        survey.share(0, 1).err(),
-        survey.part(0, 1).err(),
-        survey.resolve().err(),
-        begin_and_withdraw(survey).err(),
+        refusal(survey.enlist(700)),
+        refusal(survey.share(0, 1)),
+        refusal(survey.part(0, 1)),
+        refusal(survey.resolve()),
+        refusal(begin_and_withdraw(survey)),
     ]
 }
