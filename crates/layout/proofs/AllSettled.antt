@@ -18,7 +18,6 @@ use Rattle.layout.specs.declared.walk.Walk.{Walk}
 use Rattle.layout.specs.Answered.{Settling}
 use Rattle.layout.specs.Tables.{bits_at}
 use Rattle.layout.specs.Told.{told}
-use Rattle.layout.proofs.Tells.{sound_told}
 use Rattle.layout.proofs.Steps.{walked_reach}
 
 -- ---- near stars that are equal on a cluster settle it alike
@@ -179,8 +178,8 @@ settling_here : (w : Walk) (before after : Clusters) (doubtful : Bool)
     → ((v : ℕ) → has after.doubtful.bits v ≡ (has before.doubtful.bits v || (doubtful && has w.met.bits v)))
     → Settling (told w.rows.now) after (w.root + 1)
 settling_here w before after doubtful s fresh =
-    settling_more (told w.rows.now) (sound_told w.rows.now) before w.root w.walked.below s fresh after w.met.bits doubtful
-    (walked_reach (told w.rows.now) (sound_told w.rows.now) w.root w.met.bits w.steps.items w.walked)
+    settling_more (told w.rows.now) w.rows.now.sound before w.root w.walked.below s fresh after w.met.bits doubtful
+    (walked_reach (told w.rows.now) w.rows.now.sound w.root w.met.bits w.steps.items w.walked)
 
 -- the cluster of r, which was walked through, was settled
 pub settling_walk : (x : Rows) (r : ℕ) (w : Walk) → w.rows.now ≡ x → w.root ≡ r → (before after : Clusters) (doubtful : Bool)

@@ -60,10 +60,7 @@ abbrev pub Kept : ℕ → List BaselineSet → Type 0
 Kept n rows = record {
   long : length rows ≡ 64;
   small : (i : ℕ) → bits_at rows i < 2 ^ 64;
-  few : n ≤ 64;
-  alike : (i j : ℕ) → (table_of n rows).shares i j ≡ (table_of n rows).shares j i;
-  apart : (i : ℕ) → (table_of n rows).shares i i ≡ false;
-  within : (i j : ℕ) → n ≤ i → (table_of n rows).shares i j ≡ false;
+  sound : Sound (table_of n rows);
 }
 
 module _ (t : Table) (sound : Sound t) (n : ℕ) (rows : List BaselineSet) (e : n ≡ t.count) (long : length rows ≡ 64)
@@ -96,13 +93,4 @@ module _ (t : Table) (sound : Sound t) (n : ℕ) (rows : List BaselineSet) (e : 
 
   -- and keep what rows keep
   pub loaded_kept : Kept n rows
-  loaded_kept =
-      let x : Sound (table_of n rows) = subst Sound (sym loaded_told) sound in
-      record {
-        long = long;
-        small = λ i. rw (row_is i) (row_lt t i);
-        few = x.few;
-        alike = x.alike;
-        apart = x.apart;
-        within = x.within;
-      }
+  loaded_kept = record { long = long; small = λ i. rw (row_is i) (row_lt t i); sound = subst Sound (sym loaded_told) sound }

@@ -17,7 +17,6 @@ use Rattle.theory.proofs.Verify.{all_tells, imp_at, imp_from, no_other, in_far, 
 use Rattle.layout.specs.declared.walk.Walk.{Walk}
 use Rattle.layout.specs.Quick.{star_of, quick, near_fits, quick_at}
 use Rattle.layout.specs.Told.{told}
-use Rattle.layout.proofs.Tells.{sound_told}
 use Rattle.layout.proofs.Steps.{walked_reach}
 
 -- a star is agreed on just where each baseline of it has it
@@ -142,12 +141,12 @@ pub verified_by : (w : Walk) (near : ℕ → ℕ) (r : Bool) → ((v : ℕ) → 
     ((v : ℕ) × (has w.met.bits v ≡ true) × (quick_at (told w.rows.now) near v ≡ false))
     → (r ≡ true) ↔ Stars (told w.rows.now) (Reach (told w.rows.now) w.root) (star (told w.rows.now) near)
 verified_by w near true small each = (
-  λ _. quick_stars (told w.rows.now) (sound_told w.rows.now) w.root w.walked.below near small (λ v reach. each v (w.walked.whole v reach)),
+  λ _. quick_stars (told w.rows.now) w.rows.now.sound w.root w.walked.below near small (λ v reach. each v (w.walked.whole v reach)),
   λ _. refl,
 )
 verified_by w near false small one = (
   λ h. absurd (false≢true h),
   λ good. absurd (both_ways _ one.2
-      (stars_quick (told w.rows.now) (sound_told w.rows.now) w.root w.walked.below near small good one.0
-      ((walked_reach (told w.rows.now) (sound_told w.rows.now) w.root w.met.bits w.steps.items w.walked one.0).0 one.1))),
+      (stars_quick (told w.rows.now) w.rows.now.sound w.root w.walked.below near small good one.0
+      ((walked_reach (told w.rows.now) w.rows.now.sound w.root w.met.bits w.steps.items w.walked one.0).0 one.1))),
 )

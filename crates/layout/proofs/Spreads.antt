@@ -15,7 +15,6 @@ use Rattle.theory.proofs.Spread.{spread_handed}
 use Rattle.layout.specs.declared.walk.Walk.{Walk}
 use Rattle.layout.specs.Tables.{none as empty, bits_at}
 use Rattle.layout.specs.Told.{told}
-use Rattle.layout.proofs.Tells.{sound_told}
 use Rattle.layout.proofs.Steps.{reverse_push, walked_steps}
 
 -- ---- the steps by their places
@@ -43,7 +42,7 @@ step_below w taken e k l =
     let x = w.rows.now in
     let steps = walked_steps (told x) w.root w.met.bits w.steps.items w.walked in
     let s = step_shares (told x) w.root w.met.bits taken (subst (λ l. Steps (told x) w.root (reverse l) w.met.bits) (sym e) steps) k l in
-    (shares_lt (told x) (sound_told x) _ _ (x.alike _ _ ∙ s), shares_lt (told x) (sound_told x) _ _ s)
+    (shares_lt (told x) x.sound _ _ (x.sound.alike _ _ ∙ s), shares_lt (told x) x.sound _ _ s)
 
 -- ---- near stars, step by step
 

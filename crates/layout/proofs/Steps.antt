@@ -183,4 +183,4 @@ walked_reach t sound root met taken walked v =
 
 -- the root of a walk is a baseline
 pub root_low : (w : Walk) → w.root < 64
-root_low w = omega (arith, w.rows.now.few, w.walked.below)
+root_low w = omega (arith, w.rows.now.sound.few, w.walked.below)

@@ -11,13 +11,9 @@ use Rattle.layout.specs.declared.rows.Rows.{Rows}
 use Rattle.layout.specs.Tables.{bits_at}
 use Rattle.layout.specs.Told.{told}
 
--- the table is sound
-pub sound_told : (x : Rows) → Sound (told x)
-sound_told x = record { few = x.few; alike = x.alike; apart = x.apart; within = x.within }
-
 -- each row is that of the table
 pub row_told : (x : Rows) (i : ℕ) → bits_at x.rows i ≡ row (told x) i
-row_told x i = same_set 64 _ _ (x.small i) (row_lt (told x) i) (λ j _. sym (row_has (told x) (sound_told x) i j))
+row_told x i = same_set 64 _ _ (x.small i) (row_lt (told x) i) (λ j _. sym (row_has (told x) x.sound i j))
 
 -- a set with one member more is a set of baselines, and holds the member
 pub put_is : (m i : ℕ) → i < 64 → put m i ≡ bit_or m (single i)

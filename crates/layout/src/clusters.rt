@@ -32,9 +32,7 @@ impl<'a> Clusters<'a> {
         ensures added { MatchResult result (λ _. Settling (told self.old.near.rows.now) self.new (r + 1)) (λ e. (e ≡ NoLayout r) × Clash (told self.old.near.rows.now) r) }
     {
         let walk = Walk::of_cluster(self.near.rows, r);
-        let Some(doubtful) = settle(&walk, &mut self.near) else {
-            return Err(Refusal::NoLayout(r));
-        };
+        let doubtful = settle(&walk, &mut self.near).ok_or(Refusal::NoLayout(r))?;
         self.settled = self.settled.union(walk.met);
         if doubtful {
             self.doubtful = self.doubtful.union(walk.met);

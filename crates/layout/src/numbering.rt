@@ -78,9 +78,8 @@ fn doubts(count: usize, doubtful: BaselineSet) -> [Entry; 64]
     ensures told { (w : ℕ) → slice_index_or result w blank ≡ unnumbered (nat_lt w count && has doubtful.bits w) }
 {
     array::from_fn(|v| Entry {
-        lower: 0,
-        higher: 0,
         doubtful: v < count && doubtful.has(v),
+        ..Entry::default()
     })
 }
 

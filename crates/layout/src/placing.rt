@@ -20,7 +20,7 @@ fn place_rows(rows: &Rows, record: &mut Record) -> Result<usize, Refusal>
     let numbers = number(&found.near, found.doubtful);
     let entries = numbers.entries;
     *record = Record { entries };
-    Ok(numbers.next as usize)
+    Ok(usize::from(numbers.next))
 }
 
 /// Finds the layout of an evidence, tells it in the record, and answers how many imagers there are, at most 128. Each entry below the

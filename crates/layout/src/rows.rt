@@ -1,6 +1,7 @@
 //! The rows of a table: for each baseline the set of those that share with it.
 
-ghost use Rattle.std.specs.Prelude.{◌≡◌, ℕ, ◌^◌, ◌<◌, ◌≤◌, false, length, slice_index_or};
+ghost use Rattle.std.specs.Prelude.{◌≡◌, ℕ, ◌^◌, ◌<◌, length, slice_index_or};
+ghost use Rattle.evidence.specs.Table.{Sound};
 ghost use Rattle.layout.specs.Tables.{none, table_of};
 
 use bitset::BaselineSet;
@@ -12,8 +13,5 @@ pub struct Rows {
     pub rows: [BaselineSet; 64],
     ghost long: { length rows ≡ 64 },
     ghost small: { (i : ℕ) → (slice_index_or rows i none).bits < 2 ^ 64 },
-    ghost few: { count ≤ 64 },
-    ghost alike: { (i j : ℕ) → (table_of count rows).shares i j ≡ (table_of count rows).shares j i },
-    ghost apart: { (i : ℕ) → (table_of count rows).shares i i ≡ false },
-    ghost within: { (i j : ℕ) → count ≤ i → (table_of count rows).shares i j ≡ false },
+    ghost sound: { Sound (table_of count rows) },
 }

@@ -59,10 +59,10 @@ impl<'a> Walk<'a> {
         requires first { star.bits ≡ first (told self.now.rows.now) self.now.root cross }
         ensures { passes (told self.now.rows.now) self.now.root cross ≡ true → result ≡ true }
     {
-        if let Some(x) = cross {
-            if !self.rows.row(x).common(self.between()).is_empty() {
-                return false;
-            }
+        if let Some(x) = cross
+            && !self.rows.row(x).common(self.between()).is_empty()
+        {
+            return false;
         }
         self.rows.is_clique(star)
     }

@@ -3,7 +3,6 @@ use Rattle.layout.specs.declared.clusters.Clusters.{Clusters}
 use Rattle.layout.specs.declared.rows.Rows.{Rows}
 use Rattle.layout.specs.Answered.{Settling}
 use Rattle.layout.specs.Told.{told}
-use Rattle.layout.proofs.Tells.{sound_told}
 use Rattle.layout.proofs.AllSettled.{settling_none, settling_skip, settling_all}
 use Rattle.layout.proofs.clusters.settle_all.Goals as goal
 use Rattle.layout.proofs.clusters.settle_all.Goals.{then-not-has+in_ok-add, else-not-has}
@@ -21,8 +20,8 @@ loop-r-preserved c =
       | then-not-has+in_ok-add w ↦ subst P (sym w.found-is)
           (w.add.ensures.rows ∙ was.0, subst (λ (x : Rows). Settling (told x) w.add.new.self (r + 1)) was.0 w.in_ok-add.ensures.added)
       | else-not-has w ↦ subst P (sym w.found-is)
-          (was.0, settling_skip (told x) (sound_told x) c.loop-r.found r c.loop-r-test.true (sym c.has.ensures ∙ w.if-not-has.false) was.1)
+          (was.0, settling_skip (told x) x.sound c.loop-r.found r c.loop-r-test.true (sym c.has.ensures ∙ w.if-not-has.false) was.1)
     ]
 
 pub returns-clause-answered : goal.returns-clause-answered
-returns-clause-answered c = settling_all (told c.args.rows.now) (sound_told c.args.rows.now) c.loop-r.found c.loop-r.r c.loop-r-test.false c.loop-r.invariant.1
+returns-clause-answered c = settling_all (told c.args.rows.now) c.args.rows.now.sound c.loop-r.found c.loop-r.r c.loop-r-test.false c.loop-r.invariant.1

@@ -1,7 +1,6 @@
 use Rattle.std.proofs.Common.{get_or, refl, arith}
 use Rattle.layout.specs.Tables.{none, bits_at}
 use Rattle.layout.specs.Told.{told}
-use Rattle.layout.proofs.Tells.{sound_told}
 use Rattle.layout.proofs.Turns.{marks}
 use Rattle.layout.proofs.Turns.{begins_ordered, numbering_none, numbering_first, numbering_second, numbering_all, room_first, room_second}
 use Rattle.layout.proofs.numbering.number.Goals as goal
@@ -17,10 +16,10 @@ begin-requires c =
     let near = bits_at c.args.near.now.near in
     let v = c.loop-v.v in
     let two = begins_ordered (told x) near v (get_or c.args.near.now.near v none) c.far.result c.in_order.result refl c.far.ensures c.in_order.ensures in
-    let few = x.few in
+    let few = x.sound.few in
     record {
       below = omega (arith, c.loop-v-test.true);
-      room = room_first (sound_told x) c.requires (marks c.doubts.result) v c.in_order.result.0.bits c.in_order.result.1.bits c.loop-v-test.true two c.loop-v.numbers c.loop-v.invariant;
+      room = room_first x.sound c.requires (marks c.doubts.result) v c.in_order.result.0.bits c.in_order.result.1.bits c.loop-v-test.true two c.loop-v.numbers c.loop-v.invariant;
       long = c.loop-v.invariant.long;
     }
 
@@ -30,12 +29,12 @@ begin-requires-in-loop-v c =
     let near = bits_at c.args.near.now.near in
     let v = c.loop-v.v in
     let two = begins_ordered (told x) near v (get_or c.args.near.now.near v none) c.far.result c.in_order.result refl c.far.ensures c.in_order.ensures in
-    let few = x.few in
-    let s = numbering_first (sound_told x) c.requires (marks c.doubts.result) v c.in_order.result.0.bits c.in_order.result.1.bits c.loop-v-test.true two
+    let few = x.sound.few in
+    let s = numbering_first x.sound c.requires (marks c.doubts.result) v c.in_order.result.0.bits c.in_order.result.1.bits c.loop-v-test.true two
     c.loop-v.numbers c.begin.new.self c.loop-v.invariant c.begin.ensures in
     record {
       below = omega (arith, c.loop-v-test.true);
-      room = room_second (sound_told x) c.requires (marks c.doubts.result) v c.in_order.result.0.bits c.in_order.result.1.bits c.loop-v-test.true two c.begin.new.self s;
+      room = room_second x.sound c.requires (marks c.doubts.result) v c.in_order.result.0.bits c.in_order.result.1.bits c.loop-v-test.true two c.begin.new.self s;
       long = s.long;
     }
 
@@ -45,14 +44,14 @@ loop-v-preserved c =
     let near = bits_at c.args.near.now.near in
     let v = c.loop-v.v in
     let two = begins_ordered (told x) near v (get_or c.args.near.now.near v none) c.far.result c.in_order.result refl c.far.ensures c.in_order.ensures in
-    numbering_second (sound_told x) c.requires (marks c.doubts.result) v c.in_order.result.0.bits c.in_order.result.1.bits c.loop-v-test.true two
+    numbering_second x.sound c.requires (marks c.doubts.result) v c.in_order.result.0.bits c.in_order.result.1.bits c.loop-v-test.true two
     c.begin.new.self c.begin-in-loop-v.new.self
-    (numbering_first (sound_told x) c.requires (marks c.doubts.result) v c.in_order.result.0.bits c.in_order.result.1.bits c.loop-v-test.true two
+    (numbering_first x.sound c.requires (marks c.doubts.result) v c.in_order.result.0.bits c.in_order.result.1.bits c.loop-v-test.true two
     c.loop-v.numbers c.begin.new.self c.loop-v.invariant c.begin.ensures)
     c.begin-in-loop-v.ensures
 
 pub returns : goal.returns
 returns c =
     let x = c.args.near.now.rows.now in
-    numbering_all (told x) (sound_told x) (bits_at c.args.near.now.near) c.requires c.args.doubtful.bits c.doubts.result c.loop-v.v c.loop-v.numbers
+    numbering_all (told x) x.sound (bits_at c.args.near.now.near) c.requires c.args.doubtful.bits c.doubts.result c.loop-v.v c.loop-v.numbers
     (omega arith) c.doubts.ensures.told c.loop-v.invariant

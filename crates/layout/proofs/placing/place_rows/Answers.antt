@@ -8,7 +8,6 @@ use Rattle.layout.specs.declared.rows.Rows.{Rows}
 use Rattle.layout.specs.Numbers.{Numbered}
 use Rattle.layout.specs.Tables.{bits_at}
 use Rattle.layout.specs.Told.{told}
-use Rattle.layout.proofs.Tells.{sound_told}
 use Rattle.layout.proofs.Answer.{numbered_solved}
 use Rattle.layout.proofs.placing.place_rows.Goals as goal
 
@@ -24,7 +23,7 @@ number-numbers-requires c =
     let found = c.in_ok-found.found in
     let near = bits_at found.near.near in
     subst (λ (y : Rows). Stars (told y) (λ v. v < y.count) (star (told y) near)) (sym c.in_ok-found.ensures.rows)
-    (whole_stars (told x) (sound_told x) near (has found.doubtful.bits) c.in_ok-found.ensures.answered)
+    (whole_stars (told x) x.sound near (has found.doubtful.bits) c.in_ok-found.ensures.answered)
 
 pub returns : goal.returns
 returns c =
@@ -34,8 +33,8 @@ returns c =
     let numbers = c.number-numbers.result in
     let numbered : Numbered (told x) near found.doubtful.bits numbers =
     subst (λ (y : Rows). Numbered (told y) near found.doubtful.bits numbers) c.in_ok-found.ensures.rows c.number-numbers.ensures in
-    record {
-      placed = numbered_solved (told x) (sound_told x) near found.doubtful.bits numbers
+    rw c.from.ensures (record {
+      placed = numbered_solved (told x) x.sound near found.doubtful.bits numbers
           (record { entries = numbers.entries }) refl c.in_ok-found.ensures.answered numbered;
-      few = omega (arith, numbered.imagers, imagers_length (told x) near (told x).count, (sound_told x).few);
-    }
+      few = omega (arith, numbered.imagers, imagers_length (told x) near (told x).count, x.sound.few);
+    })

@@ -4,7 +4,6 @@ use Rattle.theory.specs.Clusters.{Reach}
 use Rattle.theory.specs.Search.{first, Handed, passes}
 use Rattle.layout.specs.Tables.{bits_at}
 use Rattle.layout.specs.Told.{told}
-use Rattle.layout.proofs.Tells.{sound_told}
 use Rattle.layout.proofs.Attempts.{near_small, near_first, passes_tells}
 use Rattle.layout.proofs.settle.attempt.Goals as goal
 
@@ -14,7 +13,7 @@ verify-requires c =
     let near = bits_at c.spread.new.self.near in
     record {
       rows = c.requires.rows ∙ sym c.spread.ensures.rows;
-      small = near_small (told w.rows.now) (sound_told w.rows.now) w.root w.walked.below c.args.cross near
+      small = near_small (told w.rows.now) w.rows.now.sound w.root w.walked.below c.args.cross near
           (λ v reach. subst (λ a. Handed (told w.rows.now) w.root a near v) c.first_star-first.ensures (c.spread.ensures.handed v reach));
     }
 
@@ -28,6 +27,6 @@ returns c =
     record {
       rows = c.spread.ensures.rows;
       passes = same_from_decides c.verify.result (passes t w.root c.args.cross) c.verify.ensures
-          (passes_tells t (sound_told w.rows.now) w.root w.walked.below c.args.cross near handed);
-      stars = λ h. record { stars = c.verify.ensures.0 h; first = near_first t (sound_told w.rows.now) w.root w.walked.below c.args.cross near handed };
+          (passes_tells t w.rows.now.sound w.root w.walked.below c.args.cross near handed);
+      stars = λ h. record { stars = c.verify.ensures.0 h; first = near_first t w.rows.now.sound w.root w.walked.below c.args.cross near handed };
     }

@@ -5,7 +5,6 @@ use Rattle.layout.specs.Order.{left}
 use Rattle.layout.specs.Tables.{bits_at}
 use Rattle.layout.specs.Told.{told}
 use Rattle.layout.proofs.Preferred.{all_starts, passing_kept, found_some}
-use Rattle.layout.proofs.Tells.{sound_told}
 use Rattle.layout.proofs.Steps.{walked_reach}
 use Rattle.layout.proofs.AllSettled.{settled_alike}
 use Rattle.layout.proofs.settle.settle.Goals as goal
@@ -27,7 +26,7 @@ returns c =
     let r = w.root in
     let found = c.if-not-find.ensures.found in
     let tried = bits_at c.find.new.near.near in
-    let reaches = walked_reach t (sound_told w.rows.now) r w.met.bits w.steps.items w.walked in
+    let reaches = walked_reach t w.rows.now.sound r w.met.bits w.steps.items w.walked in
     let settled : Settled t r tried c.find-2.result = record {
       start = found.0;
       others = left t r c.find.new.starts;

@@ -7,7 +7,6 @@ use Rattle.theory.proofs.StarFacts.{far_has}
 use Rattle.layout.specs.Quick.{quick, near_fits, quick_at}
 use Rattle.layout.specs.Tables.{bits_at}
 use Rattle.layout.specs.Told.{told}
-use Rattle.layout.proofs.Tells.{sound_told}
 use Rattle.layout.proofs.near.NearStars.holds_at.Goals as goal
 use Rattle.layout.proofs.near.NearStars.holds_at.Goals.{then-near_fits, else-near_fits}
 
@@ -25,7 +24,7 @@ star_holds-requires c = (and_parts _ _ (sym c.near_fits.ensures ∙ c.if-near_fi
 pub star_holds-requires-then-star_holds : goal.star_holds-requires-then-star_holds
 star_holds-requires-then-star_holds c =
     let v = c.args.v in
-    ap (λ m. has m v) c.far.ensures ∙ far_has (sound_told c.args.self.now.rows.now) v (bits_at c.args.self.now.near v) v ∙ or_left _ _ (eq-eqb v v refl)
+    ap (λ m. has m v) c.far.ensures ∙ far_has c.args.self.now.rows.now.sound v (bits_at c.args.self.now.near v) v ∙ or_left _ _ (eq-eqb v v refl)
 
 pub returns-then-star_holds : goal.returns-then-star_holds
 unfolding quick_at

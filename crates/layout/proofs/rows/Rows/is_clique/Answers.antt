@@ -4,7 +4,6 @@ use Rattle.bitset.specs.Sets.{minus, put}
 use Rattle.bitset.proofs.Chains.{members_come, serves_from_members, each_from_all, true_from_each}
 use Rattle.theory.specs.Stars.{row}
 use Rattle.layout.specs.Told.{told}
-use Rattle.layout.proofs.Tells.{sound_told}
 use Rattle.layout.proofs.FirstStars.{clique_within}
 use Rattle.layout.proofs.rows.Rows.is_clique.Goals as goal
 
@@ -23,4 +22,4 @@ returns c clique =
     true_from_each a Yes No c.all.result (λ v p q. q p) small
     (each_from_all a (members_come c.into_iter.result c.args.a c.into_iter.ensures.into_iter_gives) c.all.new.self _ c.all.result Yes No small c.all.ensures.ran
     (λ x q k. search (rules, tests)) (λ x q k. search (rules, tests)))
-    (λ v low h. clique_within t (sound_told c.args.self.now) a v small low (λ w. clique v w h))
+    (λ v low h. clique_within t c.args.self.now.sound a v small low (λ w. clique v w h))

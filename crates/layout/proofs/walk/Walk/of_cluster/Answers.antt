@@ -4,7 +4,6 @@ use Rattle.std.proofs.lemmas.Bool.{and_parts, and_from, or_left, or_right, eq-eq
 use Rattle.bitset.specs.Sets.{has, put, members, Lowest}
 use Rattle.theory.specs.Walks.{Steps}
 use Rattle.layout.specs.Told.{told}
-use Rattle.layout.proofs.Tells.{sound_told}
 use Rattle.layout.proofs.Steps.{steps_start, steps_all, steps_room, row_new, all_met, closed_none, closed_more, closed_reach, visit_falls, steps_walked}
 use Rattle.layout.proofs.walk.Walk.of_cluster.Goals as goal
 
@@ -12,7 +11,7 @@ pub loop-u-init : goal.loop-u-init
 loop-u-init c =
     let x = c.args.rows.now in
     let r = c.args.root in
-    let low : r < 64 = omega (arith, x.few, c.requires) in (
+    let low : r < 64 = omega (arith, x.sound.few, c.requires) in (
       search rules,
       steps_start (told x) r low c.with-met.result.bits c.new-steps.result.items
           (c.with-met.ensures.bits ∙ ap (λ m. put m r) c.empty.ensures) c.new-steps.ensures,
@@ -29,9 +28,9 @@ step_to-requires c =
     let u = c.in-Some.u in
     let low : Lowest c.minus.result.bits u = c.in-Some.ensures in
     let was : has met u ≡ true = (and_parts _ _ (sym (c.minus.ensures.members u) ∙ low.member)).0 in
-    let room = steps_room t (sound_told c.args.rows.now) c.args.root c.requires u taken (members new)
+    let room = steps_room t c.args.rows.now.sound c.args.root c.requires u taken (members new)
     (steps_all t c.args.root u new met taken (search rules) c.loop-u.invariant.0 c.loop-u.invariant.1 was
-    (row_new t (sound_told c.args.rows.now) u c.row.result.bits new met c.row.ensures c.minus-new.ensures.members)) in
+    (row_new t c.args.rows.now.sound u c.row.result.bits new met c.row.ensures c.minus-new.ensures.members)) in
     omega arith
 
 pub loop-u-smaller : goal.loop-u-smaller
@@ -43,7 +42,7 @@ loop-u-smaller c =
 pub loop-u-preserved : goal.loop-u-preserved
 loop-u-preserved c =
     let t = told c.args.rows.now in
-    let sound = sound_told c.args.rows.now in
+    let sound = c.args.rows.now.sound in
     let met = c.loop-u.met.bits in
     let new = c.minus-new.result.bits in
     let taken = c.loop-u.steps.items in
