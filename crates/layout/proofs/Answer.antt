@@ -10,7 +10,7 @@ use Rattle.theory.specs.Walks.{root}
 use Rattle.theory.specs.Search.{Settled}
 use Rattle.theory.proofs.SameAnswer.{solved_same}
 use Rattle.theory.proofs.Solves.{settled_solved}
-use Rattle.layout.specs.declared.numbering.Numbers.{Numbers}
+use Rattle.layout.specs.declared.numbers.Numbers.{Numbers}
 use Rattle.layout.specs.Numbers.{Numbered}
 
 -- settled clusters whose imagers are numbered

@@ -1,5 +1,5 @@
 -- A number is given to the baselines of a star, one after the other.
-use Rattle.std.proofs.Common.{◌≡◌, ℕ, ◌^◌, ◌<◌, Bool, true, false, cond, not, ◌&&◌, eqb, [], ◌∷◌, length, get_or, set, sym, refl, ap, ◌∙◌, ap₂, ⊎_elim, arith, length-set, Some, None, Option, MatchOption}
+use Rattle.std.proofs.Common.{◌≡◌, ℕ, ◌^◌, ◌<◌, Bool, true, false, cond, not, ◌&&◌, eqb, [], ◌∷◌, length, get_or, set, sym, refl, ap, ◌∙◌, ap₂, ⊎_elim, arith, Some, None, Option, MatchOption}
 use lib.Count.{trailing_of_zero}
 use Rattle.std.specs.Option.{option_eq}
 use mathlib.Core.Bool.{and-true}
@@ -10,7 +10,7 @@ use Rattle.bitset.proofs.Members.{lowest_unique}
 use Rattle.bitset.proofs.Rising.{members_turn, members_gone}
 use Rattle.theory.specs.declared.record.Entry.{Entry}
 use Rattle.theory.specs.Record.{blank}
-use Rattle.layout.specs.declared.numbering.Numbers.{Numbers}
+use Rattle.layout.specs.declared.numbers.Numbers.{Numbers}
 use Rattle.layout.specs.Numbers.{given}
 
 -- The entry of w, of those that have the number if they are in the star and not in the rest.
@@ -22,17 +22,15 @@ so_far before star rest w = cond (has star w && not (has rest w))
 pub record Giving (before : Numbers) (star rest : ℕ) (now : Numbers) : Type 0 where
   pub small : rest < 2 ^ 64
   pub within : (w : ℕ) → has rest w ≡ true → has star w ≡ true
-  pub long : length now.entries ≡ 64
   pub next : now.next ≡ before.next
   pub begun : now.begun.bits ≡ before.begun.bits
   pub entries : (w : ℕ) → get_or now.entries w blank ≡ so_far before star rest w
 
 -- none has it
-pub giving_none : (x : Numbers) (star : ℕ) → star < 2 ^ 64 → length x.entries ≡ 64 → Giving x star star x
-giving_none x star l long = record {
+pub giving_none : (x : Numbers) (star : ℕ) → star < 2 ^ 64 → Giving x star star x
+giving_none x star l = record {
   small = l;
   within = λ w h. h;
-  long = long;
   next = refl;
   begun = refl;
   entries = λ w. none (has star w) _ _;
@@ -43,13 +41,12 @@ giving_none x star l long = record {
     none false e f = refl
 
 -- v has it too
-pub giving_more : (before : Numbers) (star rest rest' : ℕ) (now : Numbers) (v : ℕ) (e : Entry) → rest' < 2 ^ 64 → members rest ≡ v ∷ members rest'
+pub giving_more : (before : Numbers) (star rest rest' : ℕ) (now : Numbers) (v : ℕ) (e : Entry) → rest' < 2 ^ 64 → members rest ≡ v ∷ members rest' → (long : length (set now.entries v e) ≡ 64)
     → e ≡ given (get_or now.entries v blank) (has now.begun.bits v) now.next → Giving before star rest now
-    → Giving before star rest' (record { entries = set now.entries v e; begun = now.begun; next = now.next })
-giving_more before star rest rest' now v e l turn new g = record {
+    → Giving before star rest' (record { entries = set now.entries v e; begun = now.begun; next = now.next; long = long })
+giving_more before star rest rest' now v e l turn long new g = record {
   small = l;
   within = λ w h. g.within w (and_parts _ _ (sym (is w) ∙ h)).0;
-  long = simp length-set g.long;
   next = g.next;
   begun = g.begun;
   entries = λ w. ⊎_elim (here w) (there w) (cases_eq w v);
@@ -74,7 +71,7 @@ giving_more before star rest rest' now v e l turn new g = record {
 
     here : (w : ℕ) → w ≡ v → get_or (set now.entries v e) w blank ≡ so_far before star rest' w
     here w h =
-        let long = g.long in
+        let long = now.long in
         let below = low.below in
         ap (λ i. get_or (set now.entries v e) i blank) h ∙ get_or-set_same now.entries v e blank (omega arith) ∙ new
         ∙ ap (λ x. given x (has now.begun.bits v) now.next) was

@@ -12,7 +12,7 @@ use Rattle.theory.specs.Stars.{star, Stars}
 use Rattle.theory.specs.Imagers.{begun_by, all_stars, layout_of}
 use Rattle.theory.proofs.Begun.{begun_at}
 use Rattle.theory.proofs.Held.{two_places}
-use Rattle.layout.specs.declared.numbering.Numbers.{Numbers}
+use Rattle.layout.specs.declared.numbers.Numbers.{Numbers}
 use Rattle.layout.specs.Numbers.{given, Given, Begun}
 
 -- ---- one entry
@@ -54,7 +54,6 @@ upto_more e n doubtful h =
 
 -- The entries tell the numbers of the imagers whose stars are in the list.
 pub record Numbering (t : Table) (near : ℕ → ℕ) (doubtful : ℕ → Bool) (stars : List ℕ) (x : Numbers) : Type 0 where
-  pub long : length x.entries ≡ 64
   pub next : x.next ≡ length stars
   pub begun : (w : ℕ) → w < t.count → has x.begun.bits w ≡ ltb (layout_of t near w).0 (length stars)
   pub told : (w : ℕ) → w < t.count → get_or x.entries w blank ≡ upto (layout_of t near w) (length stars) (doubtful w)
@@ -65,7 +64,6 @@ module _ {t : Table} (sound : Sound t) {near : ℕ → ℕ} (good : Stars t (λ 
   numbering_give : (stars rest : List ℕ) (a : ℕ) (x y : Numbers) → all_stars t near ≡ (stars ++ a ∷ []) ++ rest
       → Given x a y → Numbering t near doubtful stars x → Numbering t near doubtful (stars ++ a ∷ []) y
   numbering_give stars rest a x y all g s = record {
-    long = g.long;
     next = g.next ∙ ap (λ n. n + 1) s.next ∙ sym more;
     begun = λ w l. g.begun w ∙ ap₂ ◌||◌ (s.begun w l) (holds w l)
         ∙ begun_more (layout_of t near w).0 (layout_of t near w).1 (length stars) (two_places sound good w l).rises

@@ -4,7 +4,7 @@ use lib.Bits.{bit_or, or_comm}
 use Rattle.std.proofs.lemmas.Bool.{lt-ltb, cond-true}
 use Rattle.bitset.specs.Sets.{minus, single, put}
 use Rattle.bitset.proofs.Members.{same_set}
-use Rattle.evidence.specs.Table.{Table, Sound}
+use Rattle.evidence.specs.Table.{Table}
 use Rattle.theory.specs.Stars.{row, far}
 use Rattle.theory.proofs.Rows.{row_lt, row_has}
 use Rattle.layout.specs.declared.rows.Rows.{Rows}

@@ -13,7 +13,7 @@ use Rattle.theory.specs.Stars.{far, star, Stars}
 use Rattle.theory.specs.Imagers.{second, begun_by, begins, imagers, all_stars, layout_of}
 use Rattle.theory.proofs.Begun.{imagers_length}
 use Rattle.theory.proofs.Held.{two_places}
-use Rattle.layout.specs.declared.numbering.Numbers.{Numbers}
+use Rattle.layout.specs.declared.numbers.Numbers.{Numbers}
 use Rattle.layout.specs.Numbers.{unnumbered, Begun, Numbered}
 use Rattle.layout.proofs.Numbered.{upto, Numbering, numbering_begin}
 
@@ -98,12 +98,11 @@ module _ {t : Table} (sound : Sound t) {near : ℕ → ℕ} (good : Stars t (λ 
       omega (arith, s.next, ap length cut_between, length-append (imagers t near v ++ begun_by v a) (begun_by v b ++ rest))
 
 -- at first no imager has a number
-pub numbering_none : (t : Table) (near : ℕ → ℕ) (doubtful : ℕ) (x : Numbers) → x.next ≡ 0 → x.begun.bits ≡ 0 → length x.entries ≡ 64
+pub numbering_none : (t : Table) (near : ℕ → ℕ) (doubtful : ℕ) (x : Numbers) → x.next ≡ 0 → x.begun.bits ≡ 0
     → ((w : ℕ) → get_or x.entries w blank ≡ unnumbered (ltb w t.count && has doubtful w))
     → Numbering t near (marks x.entries) (imagers t near 0) x
 unfolding imagers
-numbering_none t near doubtful x next begun long told = record {
-  long = long;
+numbering_none t near doubtful x next begun told = record {
   next = next;
   begun = λ w l. ap (λ m. has m w) begun ∙ has_none w ∙ sym (le-ltb (layout_of t near w).0 0 (omega arith));
   told = λ w l. ap (λ (e : Entry). record { lower = e.lower; higher = e.higher; doubtful = marks x.entries w }) (told w)

@@ -5,7 +5,7 @@ use Rattle.theory.specs.declared.record.Entry.{Entry}
 use Rattle.theory.specs.Record.{blank}
 use Rattle.evidence.specs.Table.{Table}
 use Rattle.theory.specs.Imagers.{all_stars, layout_of}
-use Rattle.layout.specs.declared.numbering.Numbers.{Numbers}
+use Rattle.layout.specs.declared.numbers.Numbers.{Numbers}
 
 -- The entry with one imager more: its lower one, or where it has that already its higher one.
 abbrev pub given : Entry → Bool → ℕ → Entry
@@ -14,7 +14,6 @@ given e false n = record { lower = n; higher = e.higher; doubtful = e.doubtful }
 
 -- The star got the next number: each baseline in it has that imager.
 pub record Given (before : Numbers) (star : ℕ) (after : Numbers) : Type 0 where
-  pub long : length after.entries ≡ 64
   pub next : after.next ≡ before.next + 1
   pub begun : (w : ℕ) → has after.begun.bits w ≡ (has before.begun.bits w || has star w)
   pub entries : (w : ℕ) → slice_index_or after.entries w blank

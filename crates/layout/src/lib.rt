@@ -19,6 +19,7 @@ mod walk;
 // All clusters, and the numbers of the imagers.
 mod clusters;
 mod numbering;
+mod numbers;
 mod placing;
 
 pub use placing::place;

@@ -10,6 +10,7 @@ ghost use Rattle.layout.specs.Tables.{bits_at};
 ghost use Rattle.layout.specs.Told.{told};
 
 use super::near::NearStars;
+use super::numbers::Numbers;
 use bitset::BaselineSet;
 use std::array;
 use theory::Entry;
@@ -32,19 +33,10 @@ fn in_order(a: BaselineSet, b: BaselineSet) -> (BaselineSet, BaselineSet)
     }
 }
 
-// The entries as far as the imagers have numbers, the baselines that have one, and the next number.
-#[derive(Drop)]
-pub struct Numbers {
-    pub entries: [Entry; 64],
-    pub begun: BaselineSet,
-    pub next: u8,
-}
-
 impl Numbers {
     // Gives the next number to the imager with this star.
     fn give(&mut self, a: BaselineSet)
         requires room { self.old.next < 255 }
-        requires long { length self.old.entries ≡ 64 }
         ensures { Given self.old a.bits self.new }
     {
         for w in a {
@@ -62,7 +54,6 @@ impl Numbers {
     pub fn begin(&mut self, v: usize, a: BaselineSet)
         requires below { v < 64 }
         requires room { self.old.next < 255 }
-        requires long { length self.old.entries ≡ 64 }
         ensures { Begun self.old v a.bits self.new }
     {
         if a.lowest() == Some(v) {

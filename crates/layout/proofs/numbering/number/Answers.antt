@@ -8,7 +8,7 @@ use Rattle.layout.proofs.numbering.number.Goals as goal
 pub loop-v-init : goal.loop-v-init
 loop-v-init c =
     numbering_none (told c.args.near.now.rows.now) (bits_at c.args.near.now.near) c.args.doubtful.bits
-    (record { entries = c.doubts.result; begun = c.empty.result; next = 0 }) refl c.empty.ensures c.doubts.ensures.long c.doubts.ensures.told
+    _ refl c.empty.ensures c.doubts.ensures.told
 
 pub begin-requires : goal.begin-requires
 begin-requires c =
@@ -20,7 +20,6 @@ begin-requires c =
     record {
       below = omega (arith, c.loop-v-test.true);
       room = room_first x.sound c.requires (marks c.doubts.result) v c.in_order.result.0.bits c.in_order.result.1.bits c.loop-v-test.true two c.loop-v.numbers c.loop-v.invariant;
-      long = c.loop-v.invariant.long;
     }
 
 pub begin-requires-in-loop-v : goal.begin-requires-in-loop-v
@@ -35,7 +34,6 @@ begin-requires-in-loop-v c =
     record {
       below = omega (arith, c.loop-v-test.true);
       room = room_second x.sound c.requires (marks c.doubts.result) v c.in_order.result.0.bits c.in_order.result.1.bits c.loop-v-test.true two c.begin.new.self s;
-      long = s.long;
     }
 
 pub loop-v-preserved : goal.loop-v-preserved

@@ -22,9 +22,11 @@ returns-in_err-doubtful-clause-added c =
     let w = c.of_cluster-walk in
     let p = err_from_is_err_and c.from_residual.result c.from_residual.ensures.1 in
     let no = refused _ c.settle.result (NoLayout c.args.r) _ c.settle.ensures.settled c.in_err-doubtful.ensures.value in
-    rw (p.1, p.2) (no.0,
+    rw (p.1, p.2) (
+      no.0,
       settling_clash (told x) x.sound c.args.self.now c.args.r c.requires.below c.requires.settling c.requires.fresh
-          (ap₂ (λ (x : Rows) r. passing (told x) r) (sym w.ensures.rows) (sym w.ensures.from) ∙ no.1))
+          (ap₂ (λ (x : Rows) r. passing (told x) r) (sym w.ensures.rows) (sym w.ensures.from) ∙ no.1),
+    )
 
 pub returns-then-doubtful-clause-added : goal.returns-then-doubtful-clause-added
 returns-then-doubtful-clause-added c =

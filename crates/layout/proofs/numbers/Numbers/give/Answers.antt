@@ -4,7 +4,7 @@ use Rattle.bitset.proofs.Rising.{member_front}
 use Rattle.theory.specs.Record.{blank}
 use Rattle.layout.specs.Numbers.{given}
 use Rattle.layout.proofs.Giving.{giving_more, giving_all}
-use Rattle.layout.proofs.numbering.Numbers.give.Goals as goal
+use Rattle.layout.proofs.numbers.Numbers.give.Goals as goal
 
 pub offset_bounds-self-w : goal.offset_bounds-self-w
 offset_bounds-self-w c = let b = (member_front _ _ _ c.in-Some.ensures.steps).0 in search rules
@@ -18,7 +18,7 @@ loop-w-preserved-then-has c =
     let w = c.in-Some.w in (
       tt,
       tt,
-      giving_more c.args.self.now c.args.a.bits c.loop-w.w-iterator.left.bits c.next.new.self.left.bits x w _ c.next.new.self.small c.in-Some.ensures.steps
+      giving_more c.args.self.now c.args.a.bits c.loop-w.w-iterator.left.bits c.next.new.self.left.bits x w _ c.next.new.self.small c.in-Some.ensures.steps _
           (ap (λ b. given (get_or x.entries w blank) b x.next) (sym c.if-has.true ∙ c.has.ensures)) c.loop-w.invariant.2,
     )
 
@@ -34,7 +34,7 @@ loop-w-preserved c =
     let w = c.in-Some.w in (
       tt,
       tt,
-      giving_more c.args.self.now c.args.a.bits c.loop-w.w-iterator.left.bits c.next.new.self.left.bits x w _ c.next.new.self.small c.in-Some.ensures.steps
+      giving_more c.args.self.now c.args.a.bits c.loop-w.w-iterator.left.bits c.next.new.self.left.bits x w _ c.next.new.self.small c.in-Some.ensures.steps _
           (ap (λ b. given (get_or x.entries w blank) b x.next) (sym c.if-has.false ∙ c.has.ensures)) c.loop-w.invariant.2,
     )
 
@@ -42,7 +42,6 @@ pub returns : goal.returns
 returns c =
     let g = c.loop-w.invariant.2 in
     record {
-      long = g.long;
       next = ap (λ n. n + 1) g.next;
       begun = λ w. c.union-self.ensures.members w ∙ ap (λ m. has m w || has c.args.a.bits w) g.begun;
       entries = giving_all c.args.self.now c.args.a.bits c.loop-w.w-iterator.left.bits c.loop-w.self c.in-None.ensures.steps.0 g;

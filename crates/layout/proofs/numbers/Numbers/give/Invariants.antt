@@ -1,5 +1,5 @@
 use Rattle.layout.proofs.Giving.{Giving}
-use Rattle.layout.proofs.numbering.Numbers.give.Given as goal
+use Rattle.layout.proofs.numbers.Numbers.give.Given as goal
 
 abbrev pub invariant-loop-w : goal.invariant-loop-w
 invariant-loop-w l =

@@ -1,7 +1,7 @@
 use Rattle.std.proofs.Common.{◌≡◌, MatchBool, sym, refl, ◌∙◌, subst, rules}
 use Rattle.layout.specs.Numbers.{Given}
 use Rattle.layout.proofs.Giving.{asked_lowest}
-use Rattle.layout.proofs.numbering.Numbers.begin.Goals as goal
+use Rattle.layout.proofs.numbers.Numbers.begin.Goals as goal
 
 pub returns-then-eq : goal.returns-then-eq
 returns-then-eq c =
