@@ -7,11 +7,11 @@ use evidence::Refusal;
 
 /// A count of baselines.
 #[derive(Clone, Copy)]
-pub struct Baselines {
+pub struct Count {
     pub count: usize,
 }
 
-impl Baselines {
+impl Count {
     /// Counts one more, and answers its number; refused with 11 at 64 baselines.
     pub fn grow(&mut self) -> Result<usize, Refusal>
         ensures ok { IfOk result (λ n. (n < 64) × (n ≡ self.old.count) × (self.new.count ≡ n + 1)) }

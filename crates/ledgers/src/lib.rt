@@ -2,7 +2,7 @@
 
 #![tactic(auto)]
 
-mod baselines;
+mod count;
 mod pair_list;
 mod word_grid;
 

@@ -6,7 +6,7 @@ ghost use Rattle.evidence.specs.Pairs.{pairs};
 ghost use Rattle.evidence.specs.Table.{Sound};
 ghost use Rattle.ledgers.specs.Listing.{hit, listing};
 
-use super::baselines::Baselines;
+use super::count::Count;
 use arrayvec::ArrayVec;
 use evidence::{Evidence, Ledger, Refusal, ask_pair};
 
@@ -17,7 +17,7 @@ const LIST_MOST: usize = 512;
 #[derive(Drop)]
 pub struct PairList {
     entries: ArrayVec<(u8, u8), LIST_MOST>,
-    baselines: Baselines,
+    baselines: Count,
     ghost sound: { Sound (listing baselines.count entries.items) },
     ghost once: { (i j : ℕ) → count_by (hit i j) entries.items ≤ 1 },
     ghost counted: { length entries.items ≡ pairs (listing baselines.count entries.items) },
@@ -30,7 +30,7 @@ impl PairList {
     {
         PairList {
             entries: ArrayVec::new(),
-            baselines: Baselines { count: 0 },
+            baselines: Count { count: 0 },
         }
     }
 
@@ -69,8 +69,7 @@ impl Ledger for PairList {
     }
 
     fn clear(&mut self) {
-        self.entries.clear();
-        self.baselines = Baselines { count: 0 };
+        *self = PairList::new();
     }
 
     fn grow(&mut self) -> Result<usize, Refusal> {
@@ -79,22 +78,13 @@ impl Ledger for PairList {
 
     fn set(&mut self, i: usize, j: usize, on: bool) -> Result<bool, Refusal> {
         ask_pair(self.baselines.count, i, j)?;
-        match self.find(i, j) {
-            Some(place) => {
-                if on {
-                    return Ok(false);
-                }
+        match (self.find(i, j), on) {
+            (Some(place), false) => {
                 self.entries.swap_remove(place);
             }
-            None => {
-                if !on {
-                    return Ok(false);
-                }
-                if self.entries.is_full() {
-                    return Err(Refusal::ManyPairs);
-                }
-                self.entries.push((i as u8, j as u8));
-            }
+            (None, true) if self.entries.is_full() => return Err(Refusal::ManyPairs),
+            (None, true) => self.entries.push((i as u8, j as u8)),
+            _ => return Ok(false),
         }
         Ok(true)
     }

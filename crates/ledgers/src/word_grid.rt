@@ -7,7 +7,7 @@ ghost use Rattle.evidence.specs.Pairs.{pairs};
 ghost use Rattle.evidence.specs.Table.{Sound};
 ghost use Rattle.ledgers.specs.Grid.{grid};
 
-use super::baselines::Baselines;
+use super::count::Count;
 use bitset::BaselineSet;
 use evidence::{Evidence, Ledger, Refusal, ask_pair};
 
@@ -18,7 +18,7 @@ const GRID_MOST: u16 = 2016;
 #[derive(Drop)]
 pub struct WordGrid {
     rows: [BaselineSet; 64],
-    baselines: Baselines,
+    baselines: Count,
     sharing: u16,
     ghost long: { length rows ≡ 64 },
     ghost sound: { Sound (grid baselines.count rows) },
@@ -32,7 +32,7 @@ impl WordGrid {
     {
         WordGrid {
             rows: [BaselineSet::empty(); 64],
-            baselines: Baselines { count: 0 },
+            baselines: Count { count: 0 },
             sharing: 0,
         }
     }
@@ -69,9 +69,7 @@ impl Ledger for WordGrid {
     }
 
     fn clear(&mut self) {
-        self.rows = [BaselineSet::empty(); 64];
-        self.baselines = Baselines { count: 0 };
-        self.sharing = 0;
+        *self = WordGrid::new();
     }
 
     fn grow(&mut self) -> Result<usize, Refusal> {
