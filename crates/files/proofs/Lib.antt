@@ -6,6 +6,8 @@ pub mod Told
 pub mod Imagers
 -- The fields of a line, cut at its commas.
 pub mod Cuts
+-- Fields that are handed out.
+pub mod Handed
 -- Bytes that spell a number, and bytes that do not.
 pub mod Spelled
 -- Lines of a word and two numbers.

@@ -1,6 +1,7 @@
 //! The fields of a line, one after another.
 
 ghost use Rattle.std.specs.Prelude.{◌≡◌, [], ◌∷◌, ◌++◌, length, drop, MatchOption, slice_index_or};
+ghost use Rattle.std.specs.Iterator.{YieldsFirstRef, item_count};
 ghost use Rattle.files.specs.Fields.{left_of};
 ghost use Rattle.files.specs.Reading.{NotEnded, NotNumber, Spells, Lacks, FirstAt, fields};
 
@@ -35,11 +36,23 @@ impl<'a> Fields<'a> {
         Fields { rest: Some(line) }
     }
 
-    /// The next field, or none where all were handed out.
-    pub fn next(&mut self) -> Option<&'a [u8]>
-        ensures field { MatchOption result (left_of self.old ≡ []) (λ f. left_of self.old ≡ f.now ∷ left_of self.new) }
+    /// The number in the next field; none where that field is no number, or where all were handed out.
+    pub fn next_number(&mut self) -> Option<u16>
+        ensures number { MatchOption result (NotNumber (slice_index_or (left_of self.old) 0 [])) (λ v. Spells (slice_index_or (left_of self.old) 0 []) v) }
         ensures left { left_of self.new ≡ drop 1 (left_of self.old) }
     {
+        read_number(self.next()?)
+    }
+}
+
+impl<'a> Iterator for Fields<'a> {
+    type Item = &'a [u8];
+
+    ghost next_gives = { YieldsFirstRef left_of };
+
+    ghost remaining = { item_count left_of };
+
+    fn next(&mut self) -> Option<&'a [u8]> {
         let line = self.rest?;
         match comma(line) {
             Some(i) => {
@@ -51,14 +64,6 @@ impl<'a> Fields<'a> {
                 Some(line)
             }
         }
-    }
-
-    /// The number in the next field; none where that field is no number, or where all were handed out.
-    pub fn next_number(&mut self) -> Option<u16>
-        ensures number { MatchOption result (NotNumber (slice_index_or (left_of self.old) 0 [])) (λ v. Spells (slice_index_or (left_of self.old) 0 []) v) }
-        ensures left { left_of self.new ≡ drop 1 (left_of self.old) }
-    {
-        read_number(self.next()?)
     }
 }
 
