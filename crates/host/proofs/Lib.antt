@@ -2,3 +2,5 @@
 pub mod Places
 -- The questions before a square is placed, and the size of an answer.
 pub mod Forms
+-- A search of rows.
+pub mod Rows

@@ -1,5 +1,5 @@
 -- What the C entry asks of a square.
-use Rattle.std.specs.Prelude.{ℕ, ◌+◌, ◌*◌, ◌/◌, ◌%◌, Bool, cond, not, ◌&&◌, ◌||◌, List, length, Some, None, Option, is_some, ◌==◌, nat_lt, slice_index}
+use Rattle.std.specs.Prelude.{ℕ, ◌+◌, ◌*◌, ◌/◌, ◌%◌, Bool, cond, not, ◌&&◌, ◌||◌, List, length, Some, None, Option, option_map, ◌==◌, nat_lt, slice_index}
 use Rattle.evidence.specs.declared.refusal.Refusal.{Refusal}
 use Rattle.evidence.specs.declared.refusal.Refusal.TheVariants.{ManyBaselines, SquareSize, SquareByte}
 use Rattle.theory.specs.Answer.{lowest_that}
@@ -14,12 +14,12 @@ right_at n square i j =
     (nat_lt (byte_at n square i j) 2 && (not (i == j) || byte_at n square i j == 0))
     && byte_at n square i j == byte_at n square j i
 
--- The first column of a row whose byte is not, and the first row that has one.
+-- The first column of a row whose byte is not, and its place in the square.
 abbrev pub wrong_column : ℕ → List ℕ → ℕ → Option ℕ
 wrong_column n square i = lowest_that (λ j. not (right_at n square i j)) n
 
-abbrev pub wrong_row : ℕ → List ℕ → Option ℕ
-wrong_row n square = lowest_that (λ i. is_some (wrong_column n square i)) n
+abbrev pub wrong_in_row : ℕ → List ℕ → ℕ → Option ℕ
+wrong_in_row n square i = option_map (λ j. i * n + j) (wrong_column n square i)
 
 -- The place of the first byte that is not.
 abbrev pub first_wrong : ℕ → List ℕ → Option ℕ

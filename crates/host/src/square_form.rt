@@ -1,7 +1,7 @@
 //! The form of a square: its size, and what its bytes may be.
 
 ghost use Rattle.std.specs.Prelude.{◌≡◌, ◌*◌, ◌<◌, ◌≤◌, Some, length, MatchResult};
-ghost use Rattle.host.specs.Square.{right_at, wrong_column, wrong_row, first_wrong, form_refusal};
+ghost use Rattle.host.specs.Square.{right_at, wrong_column, wrong_in_row, first_wrong, form_refusal};
 
 use evidence::Refusal;
 
@@ -50,19 +50,19 @@ impl FullSquare<'_> {
         (0..self.n).find(|&j| !self.is_right(i, j))
     }
 
-    // The first row with a byte that is not right.
-    fn wrong_row(&self) -> Option<usize>
-        ensures { result ≡ wrong_row self.now.n self.now.bytes.now }
+    // The place of the first byte of a row that is not right.
+    fn wrong_in_row(&self, i: usize) -> Option<usize>
+        requires { i < self.now.n }
+        ensures { result ≡ wrong_in_row self.now.n self.now.bytes.now i }
     {
-        (0..self.n).find(|&i| self.wrong_column(i).is_some())
+        let j = self.wrong_column(i)?;
+        Some(i * self.n + j)
     }
 
     /// The place of the first byte that is not right.
     pub fn first_wrong(&self) -> Option<usize>
         ensures { result ≡ first_wrong self.now.n self.now.bytes.now }
     {
-        let i = self.wrong_row()?;
-        let j = self.wrong_column(i)?;
-        Some(i * self.n + j)
+        (0..self.n).find_map(|i| self.wrong_in_row(i))
     }
 }
