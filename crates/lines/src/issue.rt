@@ -13,11 +13,7 @@ pub fn issue<L: Ledger>(survey: &mut Survey<L>, reply: &mut [u8; REPLY]) -> Resu
     ensures { Served L.Evidence L.Ledger.own survey.old Request.Issue reply.old reply.new result survey.new }
 {
     let opening = survey.begin()?;
-    let Ok((closing, profile)) = survey.profile(opening, reply, 0) else {
-        unreachable!();
-    };
-    let Ok(table) = survey.table(closing, reply, profile) else {
-        unreachable!();
-    };
+    let (closing, profile) = survey.profile(opening, reply, 0).unwrap();
+    let table = survey.table(closing, reply, profile).unwrap();
     Ok(profile + table)
 }

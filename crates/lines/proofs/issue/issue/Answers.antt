@@ -1,6 +1,7 @@
-use Rattle.std.proofs.Common.{Ok, Err, refl, arith}
+use Rattle.std.proofs.Common.{Ok, Err, refl, subst, arith}
 use Rattle.std.proofs.lemmas.Result.{err_from_is_err_and}
 use Rattle.survey.specs.Views.{view}
+use Rattle.survey.specs.Issues.{ProfileWritten, TableWritten}
 use Rattle.survey.specs.Runs.{step}
 use Rattle.lines.proofs.Issued.{issued}
 use Rattle.lines.proofs.Told.{put_text}
@@ -15,9 +16,16 @@ returns-in_err-opening g c =
 pub returns : goal.returns
 returns g c =
     let begun = c.in_ok-opening.ensures in
-    let profile = c.in-Ok.ensures in
-    let table = c.in-Ok-table.ensures in
     let view_of = view g.L.Evidence g.L.Ledger in
+    let profile = subst
+    (λ r. ProfileWritten (view_of c.begin.new.self) c.in_ok-opening.opening 0 c.args.reply.now c.profile.new.buffer r (view_of c.profile.new.self))
+    c.unwrap-profile.ensures
+    c.profile.ensures in
+    let (closing, place) = c.unwrap-profile.result in
+    let table = subst
+    (λ r. TableWritten (view_of c.profile.new.self) closing place c.profile.new.buffer c.table.new.buffer r (view_of c.table.new.self))
+    c.unwrap-table.ensures
+    c.table.ensures in
     let left = issued (view_of c.args.survey.now) (view_of c.begin.new.self) (view_of c.profile.new.self) (view_of c.table.new.self)
     _ _ _ _ c.args.reply.now _ _ begun.made profile table begun.room (omega arith) in (
       _,
