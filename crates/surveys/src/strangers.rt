@@ -19,19 +19,17 @@ fn shown<L: Ledger>(survey: &mut Survey<L>, paper: Paper) -> (Paper, [Refusal; 2
     ensures { (result.0 ≡ paper) × (view L.Evidence L.Ledger.own survey.new ≡ view L.Evidence L.Ledger.own survey.old) }
 {
     let (paper, file) = match paper {
-        Paper::Opens(opening) => match survey.profile(opening, &mut [0; 90], 0) {
-            Ok(_) => unreachable!(),
-            Err((opening, refusal)) => (Paper::Opens(opening), refusal),
-        },
-        Paper::Closes(closing) => match survey.table(closing, &mut [0; 90], 0) {
-            Ok(_) => unreachable!(),
-            Err((closing, refusal)) => (Paper::Closes(closing), refusal),
-        },
+        Paper::Opens(opening) => {
+            let (opening, refusal) = survey.profile(opening, &mut [0; 90], 0).unwrap_err();
+            (Paper::Opens(opening), refusal)
+        }
+        Paper::Closes(closing) => {
+            let (closing, refusal) = survey.table(closing, &mut [0; 90], 0).unwrap_err();
+            (Paper::Closes(closing), refusal)
+        }
     };
-    match survey.withdraw(paper) {
-        Ok(()) => unreachable!(),
-        Err((paper, refusal)) => (paper, [file, refusal]),
-    }
+    let (paper, withdrawal) = survey.withdraw(paper).unwrap_err();
+    (paper, [file, withdrawal])
 }
 
 // Begins an issue of each of two surveys.
@@ -58,7 +56,7 @@ fn other_numbers<L: Ledger>(
     other: &mut Survey<L>,
 ) -> Result<[Refusal; 2], Fail> {
     let (own, foreign) = begin_both(home, other)?;
-    if (own.survey() == foreign.survey()) & (own.issue() == foreign.issue()) {
+    if own.survey() == foreign.survey() && own.issue() == foreign.issue() {
         put_away(home, Paper::Opens(own));
         put_away(other, Paper::Opens(foreign));
         return Err(Fail::new("the numbers are the same"));

@@ -1,5 +1,5 @@
 -- The issue of the two files, call by call, by the law.
-use Rattle.std.proofs.Common.{◌≡◌, ℕ, ◌≤◌, true, List, [], ◌∷◌, length, Ok, Err, refl, ap, ◌∙◌, subst, zero-add, arith}
+use Rattle.std.proofs.Common.{◌≡◌, ℕ, ◌≤◌, true, List, [], ◌∷◌, length, Result, Ok, Err, IsOk, refl, ap, ◌∙◌, subst, zero-add, arith}
 use Rattle.std.proofs.lemmas.Bool.{eq-eqb}
 use Rattle.evidence.specs.declared.evidence.Evidence.{Ghosts as EvidenceGhosts}
 use Rattle.evidence.specs.declared.ledger.Ledger.{Ghosts as LedgerGhosts}
@@ -40,11 +40,12 @@ closes n p is = ap (right_closing n profile_deeds) is ∙ (let e = eq-eqb n n re
 
 module _ {L : Type 0} (e : EvidenceGhosts L) (g : LedgerGhosts L) (s t : Survey L g e) where
   -- a right paper is not handed back
-  pub kept : (p back : Paper) (refusal : Refusal) → Rightful e g s p → Leads e g s (Withdraw p (Err (back, refusal))) t → ⊥
-  kept p back refusal (n, d, a, is_right) goes =
+  pub kept : (p : Paper) (r : Result (Unit {0}) (Paper × Refusal)) → Rightful e g s p → Leads e g s (Withdraw p r) t → IsOk r
+  kept p (Ok done) is goes = refl
+  kept p (Err (back, refusal)) (n, d, a, is_right) goes =
       let q = (next e g n d s t a (Withdraw p (Err (back, refusal))) goes).refused ∙ ap (λ b. first_no ((b, WrongPaper) ∷ [])) is_right in
       let z : ◌≡◌ {A = ℕ} 0 1 = cc in
-      omega arith
+      absurd (omega arith)
 
   module _ (n : ℕ) where
     -- after a withdrawal no issue is open

@@ -35,9 +35,6 @@ fn withdraw<L: Ledger>(survey: &mut Survey<L>, paper: Paper)
     requires { Rightful L.Evidence L.Ledger.own survey.old paper }
     ensures { WithdrawRight L.Evidence L.Ledger.own survey.old survey.new }
 {
-    match survey.withdraw(paper) {
-        Ok(()) => {}
-        // by the law only a wrong paper is handed back
-        Err(_) => unreachable!(),
-    }
+    // by the law only a wrong paper is handed back
+    survey.withdraw(paper).unwrap();
 }
