@@ -18,6 +18,7 @@ mod serve;
 mod sheet;
 
 pub use fault::{Fault, TextFault};
+pub use reply::REPLY;
 pub use request::{Request, read_request};
 pub use serve::line;
 pub use sheet::line_end;

@@ -31,9 +31,7 @@ pub enum Request {
 pub fn read_request(bytes: &[u8]) -> Result<Request, TextFault>
     ensures { Reads bytes.now result }
 {
-    let Some(text) = without_end(bytes) else {
-        return Err(TextFault::NoEnd);
-    };
+    let text = without_end(bytes).ok_or(TextFault::NoEnd)?;
     let word = first_word(text)?;
     if field_count(text) != 1 + word.numbers() {
         return Err(TextFault::FieldCount);

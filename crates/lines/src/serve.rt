@@ -24,9 +24,9 @@ pub fn line<L: Ledger>(
     ensures replied { Lined L.Evidence L.Ledger.own survey.old bytes.now number reply.old reply.new result survey.new }
     ensures within { IfOk result (λ n. n ≤ length reply.old) }
 {
-    let Some(reply) = reply.first_chunk_mut::<REPLY>() else {
-        return Err(Fault::Text(TextFault::ShortReply));
-    };
+    let reply = reply
+        .first_chunk_mut::<REPLY>()
+        .ok_or(TextFault::ShortReply)?;
     match answer(survey, bytes, reply) {
         Ok(length) => Ok(length),
         Err(fault) => Ok(put_no(reply, number, fault)),
@@ -59,11 +59,11 @@ fn serve<L: Ledger>(
             Ok(put_ok(reply, &[Field::Number(baseline as u16)]))
         }
         Request::Share(i, j) => {
-            let changed = survey.share(i as usize, j as usize)?;
+            let changed = survey.share(usize::from(i), usize::from(j))?;
             Ok(put_ok(reply, &[Field::Number(u16::from(changed))]))
         }
         Request::Part(i, j) => {
-            let changed = survey.part(i as usize, j as usize)?;
+            let changed = survey.part(usize::from(i), usize::from(j))?;
             Ok(put_ok(reply, &[Field::Number(u16::from(changed))]))
         }
         Request::Resolve => {

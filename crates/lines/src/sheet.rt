@@ -6,7 +6,9 @@ ghost use Rattle.lines.specs.Sheet.{LineEnd};
 pub fn line_end(bytes: &[u8], at: usize) -> usize
     ensures { LineEnd bytes.now at result }
 {
-    (at..bytes.len())
-        .find(|&i| bytes[i] == b'\n')
-        .map_or(bytes.len(), |i| i + 1)
+    bytes
+        .iter()
+        .skip(at)
+        .position(|byte| *byte == b'\n')
+        .map_or(bytes.len(), |before| at + before + 1)
 }

@@ -3,7 +3,7 @@
 #![tactic(auto)]
 
 use ledgers::WordGrid;
-use lines::line;
+use lines::{REPLY, line};
 use std::io::{Read, Write};
 use survey::Survey;
 
@@ -20,7 +20,7 @@ fn answer_line<W: Write>(
     number: u16,
     out: &mut W,
 ) -> anyhow::Result<()> {
-    let mut reply = [0; 4096];
+    let mut reply = [0; REPLY];
     let length = line(survey, bytes, number, &mut reply).unwrap();
     out.write_all(&reply[..length])?;
     Ok(())

@@ -11,16 +11,16 @@ put_no-requires g c =
 pub returns-in-Ok : goal.returns-in-Ok
 returns-in-Ok g c =
     let a = c.in-Ok.ensures in
-    let chunk = c.in-Some.ensures.cases in
+    let chunk = (rw c.in_ok-reply.ensures.ok_part at c.first_chunk_mut.ensures).cases in
     let front = told_ok c.args.number a.1 _ _ _ a.3 in
     let short = has_room c.args.number a.1 _ _ _ _ front c.answer.array_long in
-    let told = in_whole c.args.number a.1 c.args.reply.now c.in-Some.reply.now c.answer.new.reply _ _ chunk short front in
+    let told = in_whole c.args.number a.1 c.args.reply.now c.in_ok-reply.reply.now c.answer.new.reply _ _ chunk short front in
     record { replied = (a.0, (chunk.enough, (a.1, a.2, told.0.0, told.0.1)), a.4); within = told.1 }
 
 pub returns-in-Err : goal.returns-in-Err
 returns-in-Err g c =
     let a = c.in-Err.ensures in
-    let chunk = c.in-Some.ensures.cases in
+    let chunk = (rw c.in_ok-reply.ensures.ok_part at c.first_chunk_mut.ensures).cases in
     let front = told_no c.args.number a.1 _ _ _ _ _ a.3 c.put_no.ensures.told in
-    let told = in_whole c.args.number a.1 c.args.reply.now c.in-Some.reply.now c.put_no.new.reply _ _ chunk c.put_no.ensures.short front in
+    let told = in_whole c.args.number a.1 c.args.reply.now c.in_ok-reply.reply.now c.put_no.new.reply _ _ chunk c.put_no.ensures.short front in
     record { replied = (a.0, (chunk.enough, (a.1, a.2, told.0.0, told.0.1)), a.4); within = told.1 }
