@@ -1,7 +1,7 @@
 -- The questions that each call asks, in their order, put to what can be told of the survey.
-use Rattle.std.specs.Prelude.{◌≡◌, ℕ, ◌+◌, Bool, not, ◌&&◌, List, [], ◌∷◌, ◌++◌, length, Some, None, Ok, Err, Result, ◌==◌, nat_le, nat_lt}
+use Rattle.std.specs.Prelude.{◌≡◌, ℕ, ◌+◌, Bool, List, [], ◌∷◌, ◌++◌, length, Some, None, Ok, Err, Result, nat_le, nat_lt}
 use Rattle.evidence.specs.declared.refusal.Refusal.{Refusal}
-use Rattle.evidence.specs.declared.refusal.Refusal.TheVariants.{IssueOpen, NoSpan, PastCount, SameBaseline, Unresolved, ManyIssues, WrongPaper, NoRoom}
+use Rattle.evidence.specs.declared.refusal.Refusal.TheVariants.{IssueOpen, NoSpan, PastCount, Unresolved, ManyIssues, WrongPaper, NoRoom}
 use Rattle.evidence.specs.Refusals.{Question, first_no, pair_questions}
 use Rattle.evidence.specs.Changes.{grow_questions, set_questions}
 use Rattle.survey.specs.declared.papers.Paper.{Paper}

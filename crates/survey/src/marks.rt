@@ -16,9 +16,7 @@ impl<L: Ledger> Survey<L> {
     pub fn enlist(&mut self, span: u16) -> Result<usize, Refusal>
         ensures { Leads L.Evidence L.Ledger.own self.old (Enlist span result) self.new }
     {
-        if !self.is_idle() {
-            return Err(Refusal::IssueOpen);
-        }
+        self.ask_idle()?;
         if span == 0 {
             return Err(Refusal::NoSpan);
         }
@@ -49,9 +47,7 @@ impl<L: Ledger> Survey<L> {
     fn mark(&mut self, i: usize, j: usize, on: bool) -> Result<bool, Refusal>
         ensures { Marked (view L.Evidence L.Ledger.own self.old) i j on result (view L.Evidence L.Ledger.own self.new) }
     {
-        if !self.is_idle() {
-            return Err(Refusal::IssueOpen);
-        }
+        self.ask_idle()?;
         let changed = self.ledger.set(i, j, on)?;
         if changed {
             self.state = State::Unresolved;

@@ -19,9 +19,7 @@ impl<L: Ledger> Survey<L> {
         ensures made { Leads L.Evidence L.Ledger.own self.old (Resolve result) self.new }
         ensures few { IfOk result (λ found. (found.imagers ≤ 128) × (found.doubtful ≤ 64)) }
     {
-        if !self.is_idle() {
-            return Err(Refusal::IssueOpen);
-        }
+        self.ask_idle()?;
         let mut record = Record::new();
         let imagers = place(&self.ledger, &mut record)?;
         let doubtful = count_doubtful(&record, self.ledger.count());

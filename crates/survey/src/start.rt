@@ -1,22 +1,23 @@
 //! How a survey is opened.
 
-ghost use Rattle.std.specs.Prelude.{◌≡◌};
+ghost use Rattle.std.specs.Prelude.{◌≡◌, true, [], ◌∷◌, OnOk};
+ghost use Rattle.evidence.specs.declared.refusal.Refusal.TheVariants.{IssueOpen};
+ghost use Rattle.evidence.specs.Refusals.{Asked};
 ghost use Rattle.survey.specs.Law.{Lawful};
 ghost use Rattle.survey.specs.Views.{view, idle, Fresh};
 
 use super::state::State;
 use super::survey::Survey;
 use arrayvec::ArrayVec;
-use evidence::Ledger;
+use evidence::{Ledger, Refusal};
 
 impl<L: Ledger> Survey<L> {
     /// Opens a survey: no baselines, unresolved, no issue begun. The ledger is cleared. Every run of calls from here keeps the
     /// law of surveys.
-    pub fn open(number: u16, ledger: L) -> Survey<L>
+    pub fn open(number: u16, mut ledger: L) -> Survey<L>
         ensures fresh { Fresh number (L.Ledger.most ledger) (view L.Evidence L.Ledger.own result) }
         ensures lawful { Lawful L.Evidence L.Ledger.own number (L.Ledger.most ledger) result }
     {
-        let mut ledger = ledger;
         ledger.clear();
         Survey {
             number,
@@ -27,10 +28,14 @@ impl<L: Ledger> Survey<L> {
         }
     }
 
-    // Whether no issue is open.
-    pub(crate) fn is_idle(&self) -> bool
-        ensures { result ≡ idle self.now.state }
+    // Asks whether no issue is open. Refused with 9 while one is.
+    pub(crate) fn ask_idle(&self) -> Result<(), Refusal>
+        ensures asked { Asked ((idle self.now.state, IssueOpen) ∷ []) result }
+        ensures idle { OnOk result (idle self.now.state ≡ true) }
     {
-        matches!(self.state, State::Unresolved | State::Resolved(_))
+        match self.state {
+            State::Unresolved | State::Resolved(_) => Ok(()),
+            State::Begun(_) | State::Profiled(_) => Err(Refusal::IssueOpen),
+        }
     }
 }

@@ -1,4 +1,4 @@
-use Rattle.std.proofs.Common.{◌≡◌, true, ltb, sym, ◌∙◌, arith}
+use Rattle.std.proofs.Common.{◌≡◌, true, ltb, arith}
 use Rattle.std.proofs.lemmas.Result.{err_from_is_err_and}
 use Rattle.std.proofs.lemmas.Bool.{lt-ltb, ltb-true}
 use Rattle.survey.specs.Views.{view}
@@ -11,16 +11,16 @@ returns g c =
     let v = view g.L.Evidence g.L.Ledger c.args.self.now in
     let a = c.in_ok-baseline.ensures in
     let wide = lt-ltb 0 c.args.span (omega arith) in
-    let idle = sym c.is_idle.ensures ∙ c.if-not-is_idle.false in
+    let idle = c.in_ok-ask_idle.ensures.idle in
     (rw (idle, wide) a.table.0, (a.table.1.number, enlisted v a.most c.args.span a.table.1 c.push.ensures.items))
 
 pub returns-in_err-baseline : goal.returns-in_err-baseline
 returns-in_err-baseline g c =
-    let p = err_from_is_err_and c.from_residual.result c.from_residual.ensures.1 in
+    let p = err_from_is_err_and c.from_residual-in_err-baseline.result c.from_residual-in_err-baseline.ensures.1 in
     let v = view g.L.Evidence g.L.Ledger c.args.self.now in
     let a = c.in_err-baseline.ensures in
     let wide = lt-ltb 0 c.args.span (omega arith) in
-    let idle = sym c.is_idle.ensures ∙ c.if-not-is_idle.false in
+    let idle = c.in_ok-ask_idle.ensures.idle in
     rw (p.1, p.2) (rw (idle, wide) a.table.0, unchanged v a.most a.table.1)
 
 pub push-requires : goal.push-requires
