@@ -17,11 +17,9 @@ fn fill<L: Ledger>(rt: &impl Abort, ledger: &mut L) {
 
 // Sets so many pairs to share, of which there are as many.
 fn share_first<L: Ledger>(rt: &impl Abort, ledger: &mut L, most: usize) {
-    let mut pairs = (0..64usize).flat_map(|i| (0..i).map(move |j| (i, j)));
-    for _pair in 0..most {
-        let (i, j) = pairs.next().expect(rt, "another pair");
-        assert_eq!(rt; ledger.set(i, j, true), Ok(true));
-    }
+    let pairs = (0..64usize).flat_map(|i| (0..i).map(move |j| (i, j)));
+    let changes = pairs.take(most).map(|(i, j)| ledger.set(i, j, true));
+    assert_eq!(rt; changes.filter(|change| *change == Ok(true)).count(), most);
 }
 
 // The questions of `set`, in their order.

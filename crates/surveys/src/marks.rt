@@ -69,16 +69,12 @@ struct Stopped {
 
 // Shares the pairs of the first 33 baselines, 528 in all, in their order, and answers how many were marked.
 fn share_many<L: Ledger>(survey: &mut Survey<L>) -> Result<usize, Stopped> {
-    let mut marked = 0usize;
-    for i in 0..33 {
-        for j in 0..i {
-            survey
-                .share(i, j)
-                .map_err(|refusal| Stopped { marked, refusal })?;
-            marked = marked.saturating_add(1);
-        }
-    }
-    Ok(marked)
+    (0..33)
+        .flat_map(|i| (0..i).map(move |j| (i, j)))
+        .try_fold(0usize, |marked, (i, j)| match survey.share(i, j) {
+            Ok(_) => Ok(marked.saturating_add(1)),
+            Err(refusal) => Err(Stopped { marked, refusal }),
+        })
 }
 
 fn marks<L: Ledger + Drop>(rt: &impl Abort, ledger: L) {
