@@ -2,7 +2,7 @@
 
 use super::answer_sheet;
 use ledgers::WordGrid;
-use lines::{Fault, REPLY, TextFault, line};
+use lines::{Fault, TextFault, line};
 use std::alloc::Global;
 use std::test::Fail;
 use survey::Survey;
@@ -79,13 +79,13 @@ fn many_baselines(rt: HostRuntime) -> Result<(), Fail> {
 #[test]
 fn short_buffer(rt: HostRuntime) {
     let mut survey = Survey::open(1, WordGrid::new());
-    let mut reply = [7; REPLY - 1];
+    let mut reply = [7; 4095];
     assert_eq!(rt;
         line(&mut survey, b"enlist,5\n", 1, &mut reply),
         Err(Fault::Text(TextFault::ShortReply))
     );
     assert!(rt; reply[0] == 7);
-    let mut reply = [7; REPLY];
+    let mut reply = [7; 4096];
     assert_eq!(rt; line(&mut survey, b"enlist,5\n", 2, &mut reply), Ok(5));
     assert!(rt; &reply[0..6] == b"ok,0\n\x07".as_slice());
     assert_eq!(rt; line(&mut survey, b"", 65535, &mut reply), Ok(15));
