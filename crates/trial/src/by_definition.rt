@@ -82,9 +82,8 @@ fn groupings_of<E: Evidence>(
     evidence: &E,
     among: BaselineSet,
 ) -> Result<BTreeSet<Grouping>, AllocError> {
-    let members: Vec<usize> = (0..evidence.count().min(MOST))
-        .filter(|i| among.has(*i))
-        .collect(alloc)?;
+    let count = evidence.count().min(MOST);
+    let members: Vec<usize> = among.into_iter().filter(|i| *i < count).collect(alloc)?;
     let mut search = Search {
         alloc,
         evidence,
@@ -98,7 +97,7 @@ fn groupings_of<E: Evidence>(
 // The set with all that share with a member of it.
 fn widened<E: Evidence>(evidence: &E, set: BaselineSet) -> BaselineSet {
     (0..MOST)
-        .filter(|j| (0..MOST).any(|i| set.has(i) && evidence.shares(i, *j)))
+        .filter(|j| set.into_iter().any(|i| evidence.shares(i, *j)))
         .fold(set, |wider, j| wider.with(j))
 }
 

@@ -14,11 +14,7 @@ fn clashes_at<E: Evidence>(evidence: &E, baseline: usize) -> bool {
 // How many imagers and doubtful baselines the layout of an evidence has, where it is a layout and numbered.
 fn layout_of<E: Evidence>(evidence: &E) -> Option<(usize, usize)> {
     let told = Told::of(evidence).ok()?;
-    if told.is_layout_of(evidence) && told.is_numbered() {
-        Some((told.imagers, told.doubtful()))
-    } else {
-        None
-    }
+    (told.is_layout_of(evidence) && told.is_numbered()).then(|| (told.imagers, told.doubtful()))
 }
 
 // The four doubtful shapes beside each other: three all sharing; four with one pair apart; five, one of which shares with a

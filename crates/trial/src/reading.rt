@@ -5,11 +5,8 @@ use super::ends::Ends;
 // The number that a text spells in digits alone, up to 255.
 fn number_of(digits: &str) -> Option<u8> {
     // `parse` reads a sign too
-    if digits.bytes().all(|b| b.is_ascii_digit()) {
-        digits.parse().ok()
-    } else {
-        None
-    }
+    let all = digits.bytes().all(|b| b.is_ascii_digit());
+    all.then_some(digits)?.parse().ok()
 }
 
 // The two numbers of a line.
