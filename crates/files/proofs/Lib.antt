@@ -8,6 +8,8 @@ pub mod Imagers
 pub mod Cuts
 -- Fields that are handed out.
 pub mod Handed
+-- How many digits a number has.
+pub mod Digits
 -- Bytes that spell a number, and bytes that do not.
 pub mod Spelled
 -- Lines of a word and two numbers.

@@ -1,8 +1,7 @@
 -- Bytes that spell a number, and bytes that do not.
-use Rattle.std.proofs.Common.{◌≡◌, ℕ, ◌+◌, ◌-◌, ◌*◌, ◌<◌, ◌≤◌, List, [], ◌∷◌, length, get_or, drop, Some, None, decimal, Option, sym, ap, ◌∙◌, subst, ◌⊎◌, ⊎_elim, inl, inr, arith, rules, MatchOption}
+use Rattle.std.proofs.Common.{◌≡◌, ℕ, ◌+◌, ◌-◌, ◌*◌, ◌^◌, ◌<◌, List, [], ◌∷◌, length, get_or, Some, None, decimal, Option, sym, ap, ◌∙◌, subst, ◌⊎◌, ⊎_elim, inl, inr, pow-suc, add-one, arith, rules, MatchOption}
 use Rattle.std.specs.Int.{IsInRange}
 use Rattle.std.proofs.lemmas.Bool.{cases_lt}
-use Rattle.std.proofs.lemmas.List.{at_drop_more}
 use Rattle.std.proofs.lemmas.Str.Parse.{IsNumeralModel, numerals_by_fold, tells_by_index}
 use Rattle.std.proofs.lemmas.Fmt.{decimal-digits_value, digits_value-decimal, digits_decimal, length-decimal-le, decimal_nonempty, first_decimal, decimal_injective}
 use Rattle.files.specs.Reading.{Spells, NotNumber}
@@ -23,7 +22,10 @@ own = numerals_by_fold AllDigits tells_by_index read_on (search rules)
 pub not_empty : (bytes : List ℕ) → length bytes ≡ 0 → NotNumber bytes
 not_empty bytes e v h = omega (arith, ap length h.1, decimal_nonempty v (omega arith))
 
-not_zero_first : (bytes : List ℕ) → get_or bytes 0 0 ≡ 48 → 1 < length bytes → NotNumber bytes
+pub not_long : (bytes : List ℕ) → 5 < length bytes → NotNumber bytes
+not_long bytes l v h = omega (arith, ap length h.1, length-decimal-le 5 v (omega arith) (omega arith) (omega arith))
+
+pub not_zero_first : (bytes : List ℕ) → get_or bytes 0 0 ≡ 48 → 1 < length bytes → NotNumber bytes
 not_zero_first bytes z l v h =
     ⊎_elim
     (λ few. omega (arith, ap length h.1, length-decimal-le 1 v (omega arith) (omega arith) (omega arith)))
@@ -37,20 +39,8 @@ pub not_digit : (bytes : List ℕ) (i : ℕ) → i < length bytes → (IsInRange
 not_digit bytes i l bad v h =
     let d : AllDigits bytes = subst AllDigits (sym h.1) (digits_decimal own v (omega arith)) in bad (d i l)
 
-read_on_more : (n : ℕ) (bytes : List ℕ) → n ≤ read_on n bytes
-read_on_more n [] = omega arith
-read_on_more n (byte ∷ bytes) = omega (arith, read_on_more (n * 10 + (byte - 48)) bytes)
-
-pub not_large : (bytes : List ℕ) (i n k : ℕ) → i < length bytes → read_on n (drop i bytes) ≡ read_on 0 bytes
-    → k ≤ n * 10 + (get_or bytes i 0 - 48) → 65535 < k → NotNumber bytes
-not_large bytes i n k l e m large v h =
-    omega (
-      arith,
-      at_drop_more (read_on n) bytes i 0 l,
-      read_on_more (n * 10 + (get_or bytes i 0 - 48)) (drop (i + 1) bytes),
-      ap (read_on 0) h.1,
-      digits_value-decimal own v (omega arith),
-    )
+pub not_large : (bytes : List ℕ) → 65535 < read_on 0 bytes → NotNumber bytes
+not_large bytes l v h = omega (arith, ap (read_on 0) h.1, digits_value-decimal own v (omega arith))
 
 -- and the way in which they do
 pub is_number : (bytes : List ℕ) (n : ℕ) → AllDigits bytes → ((length bytes ≡ 0) ⊎ ((get_or bytes 0 0 ≡ 48) × (1 < length bytes)) → ⊥)
@@ -59,6 +49,10 @@ is_number bytes n d begun e h =
     let some : 0 < length bytes = ⊎_elim (λ l. l) (λ none. absurd (begun (inl (omega arith)))) (cases_lt 0 (length bytes)) in
     let zero : get_or bytes 0 0 ≡ 48 → length bytes ≡ 1 = λ z. ⊎_elim (λ more. absurd (begun (inr (z, more)))) (λ one. omega arith) (cases_lt 1 (length bytes)) in
     (h, sym (rw e at (decimal-digits_value own bytes d some zero (omega arith))))
+
+-- k digits are a number below the k-th power of ten
+pub power_more : (n i d : ℕ) → n < 10 ^ i → d < 10 → n * 10 + d < 10 ^ (i + 1)
+power_more n i d h l = rw (add-one, pow-suc) (omega arith)
 
 -- what is read of the digits of a number is the number
 pub read_once : (bytes : List ℕ) (n : ℕ) (r : Option ℕ) → n < 65536 → bytes ≡ decimal n → MatchOption r (NotNumber bytes) (λ v. Spells bytes v) → r ≡ Some n

@@ -15,7 +15,7 @@ each_more : (text : ℕ → List ℕ) (i : ℕ) → each text (i + 1) ≡ each t
 each_more text i = rw add-one
 
 -- the texts up to one, with it, are no longer than all
-each_next : (text : ℕ → List ℕ) (i n : ℕ) → i < n → length (each text i) + length (text i) ≤ length (each text n)
+pub each_next : (text : ℕ → List ℕ) (i n : ℕ) → i < n → length (each text i) + length (text i) ≤ length (each text n)
 each_next text i zero h = absurd (omega arith)
 each_next text i (suc n) h =
     ⊎_elim

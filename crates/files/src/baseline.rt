@@ -29,11 +29,11 @@ impl Baseline {
         ]
     }
 
-    // Whether an imager is at it.
+    // Whether an imager is at it. Both are compared, with no branch: this is asked of each imager and each baseline.
     pub(crate) fn has(&self, imager: u8) -> bool
         ensures { result ≡ is_at imager self.now }
     {
-        imager == self.entry.lower || imager == self.entry.higher
+        (imager == self.entry.lower) | (imager == self.entry.higher)
     }
 
     // The fields of its line in the profile, for an imager.

@@ -6,19 +6,8 @@ ghost use Rattle.files.specs.Reading.{Spells, NotNumber};
 ghost use Rattle.files.specs.Writing.{Written};
 
 use super::sink::Sink;
-use super::text::{Text, text_len, write};
+use super::text::{Text, write};
 use evidence::Refusal;
-
-// Tells the digits of a number.
-fn tell_digits<S: Sink>(n: u16, sink: &mut S)
-    requires { S.HasRoom sink.old (length (decimal n)) }
-    ensures { S.Took sink.old (decimal n) sink.new }
-{
-    if n >= 10 {
-        tell_digits(n / 10, sink);
-    }
-    sink.byte(b'0' + (n % 10) as u8);
-}
 
 impl Text for u16 {
     ghost text = { decimal };
@@ -26,7 +15,7 @@ impl Text for u16 {
     ghost most = { λ _. 5 };
 
     fn tell<S: Sink>(&self, sink: &mut S) {
-        tell_digits(*self, sink);
+        sink.number(*self);
     }
 }
 
@@ -35,7 +24,13 @@ pub fn number_len(n: u16) -> usize
     ensures same { result ≡ length (decimal n) }
     ensures few { result ≤ 5 }
 {
-    text_len(&n)
+    match n {
+        0..=9 => 1,
+        10..=99 => 2,
+        100..=999 => 3,
+        1000..=9999 => 4,
+        _ => 5,
+    }
 }
 
 /// Writes a number from `at` on, and answers how many bytes it has. Refused with 19 where it would pass the buffer's end;
@@ -46,12 +41,17 @@ pub fn write_number(n: u16, out: &mut [u8], at: usize) -> Result<usize, Refusal>
     write(&n, out, at)
 }
 
+// The largest number, and how many digits it has.
+const MOST: u32 = 65535;
+
+const MOST_DIGITS: usize = 5;
+
 // The value of a digit.
-fn digit(byte: u8) -> Option<u16>
+fn digit(byte: u8) -> Option<u32>
     ensures { MatchOption result (IsInRange 48 57 byte → ⊥) (λ d. IsInRange 48 57 byte × (d ≡ byte - 48)) }
 {
     match byte {
-        b'0'..=b'9' => Some(u16::from(byte - b'0')),
+        b'0'..=b'9' => Some(u32::from(byte - b'0')),
         _ => None,
     }
 }
@@ -67,18 +67,18 @@ fn begins_wrong(bytes: &[u8]) -> bool
 pub fn read_number(bytes: &[u8]) -> Option<u16>
     ensures { MatchOption result (NotNumber bytes.now) (λ v. Spells bytes.now v) }
 {
-    if begins_wrong(bytes) {
+    if begins_wrong(bytes) || bytes.len() > MOST_DIGITS {
         return None;
     }
-    let mut n: u16 = 0;
+    let mut n: u32 = 0;
     for byte in bytes {
-        n = n.checked_mul(10)?.checked_add(digit(*byte)?)?;
+        n = n * 10 + digit(*byte)?;
     }
-    Some(n)
+    if n > MOST {
+        return None;
+    }
+    Some(n as u16)
 }
-
-// How many digits a number has at most.
-const MOST_DIGITS: usize = 5;
 
 /// Writes a number into a small buffer and reads it out of that: it is the same number.
 pub fn reads_back(n: u16) -> Option<u16>

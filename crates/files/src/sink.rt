@@ -1,6 +1,6 @@
 //! What texts are told to: one that counts their bytes, or one that writes them.
 
-ghost use Rattle.std.specs.Prelude.{◌≡◌, ℕ, List, [], ◌∷◌, length};
+ghost use Rattle.std.specs.Prelude.{◌≡◌, ℕ, List, [], ◌∷◌, length, decimal};
 ghost use Rattle.files.specs.Sink.{SinkLaws};
 
 // Takes texts, one after another.
@@ -23,4 +23,9 @@ pub(crate) trait Sink {
     fn bytes(&mut self, bytes: &[u8])
         requires { HasRoom self.old (length bytes.now) }
         ensures { Took self.old bytes.now self.new };
+
+    // Takes a number, in digits.
+    fn number(&mut self, n: u16)
+        requires { HasRoom self.old (length (decimal n)) }
+        ensures { Took self.old (decimal n) self.new };
 }

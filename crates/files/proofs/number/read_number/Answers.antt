@@ -1,42 +1,25 @@
-use Rattle.std.proofs.Common.{◌≡◌, ◌+◌, ◌-◌, ◌*◌, get_or, sym, ◌∙◌, arith, below_more}
-use Rattle.std.proofs.lemmas.List.{at_drop_more, at_drop_all}
+use Rattle.std.proofs.Common.{sym, ◌∙◌, arith}
+use Rattle.std.proofs.lemmas.List.{at_drop_all}
 use Rattle.std.proofs.lemmas.Bool.{both_ways}
-use Rattle.files.proofs.Spelled.{not_begun, not_digit, not_large, is_number, read_on}
+use Rattle.files.proofs.Spelled.{not_begun, not_long, not_digit, not_large, is_number, read_on}
+use Rattle.files.proofs.number.read_number.Goals.{then-begins_wrong-via-then-begins_wrong, then-begins_wrong-via-else-begins_wrong+then-bytes-gt-MOST_DIGITS}
 use Rattle.files.proofs.number.read_number.Goals as goal
 
 pub returns-then-begins_wrong : goal.returns-then-begins_wrong
-returns-then-begins_wrong c = not_begun c.args.bytes.now (c.begins_wrong.ensures.0 c.if-begins_wrong.true)
-
-pub returns-in_err-checked_mul : goal.returns-in_err-checked_mul
-returns-in_err-checked_mul c =
-    rw c.from_residual.ensures
-    (not_large c.args.bytes.now c.loop-byte.byte-index c.loop-byte.n (c.loop-byte.n * 10) (omega arith) c.loop-byte.invariant.read (omega arith) (omega (arith, c.in_err-checked_mul.ensures)))
-
-pub returns-in_err-digit : goal.returns-in_err-digit
-returns-in_err-digit c =
-    rw c.from_residual-in_err-digit.ensures (not_digit c.args.bytes.now c.loop-byte.byte-index (omega arith) c.in_err-digit.ensures)
+returns-then-begins_wrong c =
+    elim c.then-begins_wrong.branch [
+      | then-begins_wrong-via-then-begins_wrong w ↦ not_begun c.args.bytes.now (c.begins_wrong.ensures.0 w.if-begins_wrong.true)
+      | then-begins_wrong-via-else-begins_wrong+then-bytes-gt-MOST_DIGITS w ↦ not_long c.args.bytes.now (omega arith)
+    ]
 
 pub returns-in_err-n : goal.returns-in_err-n
 returns-in_err-n c =
-    let d = c.in_ok-digit.ensures in
-    let p = c.in_ok-checked_mul.ensures in
-    rw c.from_residual-in_err-n.ensures
-    (not_large c.args.bytes.now c.loop-byte.byte-index c.loop-byte.n (c.in_ok-checked_mul.field-0 + c.in_ok-digit.field-0)
-    (omega arith) c.loop-byte.invariant.read (omega arith) (omega (arith, c.in_err-n.ensures)))
+    rw c.from_residual.ensures (not_digit c.args.bytes.now c.loop-byte.byte-index (omega arith) c.in_err-n.ensures)
 
-pub loop-byte-preserved : goal.loop-byte-preserved
-loop-byte-preserved c =
-    let bytes = c.args.bytes.now in
-    let i = c.loop-byte.byte-index in
-    let d = c.in_ok-digit.ensures in
-    let p = c.in_ok-checked_mul.ensures in
-    let q = c.in_ok-n.ensures in
-    let value : c.in_ok-n.n ≡ c.loop-byte.n * 10 + (get_or bytes i 0 - 48) = omega arith in
-    record {
-      digits = below_more _ _ c.loop-byte.invariant.digits d.0;
-      read = rw value (sym (at_drop_more (read_on c.loop-byte.n) bytes i 0 (omega arith)) ∙ c.loop-byte.invariant.read);
-      small = omega arith;
-    }
+pub returns-then-n-gt-MOST : goal.returns-then-n-gt-MOST
+returns-then-n-gt-MOST c =
+    let e = sym (at_drop_all (read_on c.loop-byte.n) c.args.bytes.now c.loop-byte.byte-index (omega arith)) ∙ c.loop-byte.invariant.read in
+    not_large c.args.bytes.now (omega (arith, e))
 
 pub returns : goal.returns
 returns c =
