@@ -23,7 +23,7 @@ use Rattle.survey.specs.History.{Event}
 use Rattle.survey.specs.Questions.{enlist_questions, mark_questions, begin_questions, resolve_questions}
 
 -- No question names a detail.
-abbrev Plain : List Question → Type 0
+abbrev pub Plain : List Question → Type 0
 Plain [] = Unit {0}
 Plain (q ∷ questions) = (detail_of q.1 ≡ 0) × Plain questions
 
@@ -40,18 +40,18 @@ none_in : (questions : List Question) → Plain questions → detail_in (first_n
 none_in [] p = refl
 none_in (q ∷ questions) p = by_test q.0 (first_no questions) q.1 p.0 (none_in questions p.1)
 
-plain_detail : (questions : List Question) (e : Refusal) → Plain questions → first_no questions ≡ Some e → detail_of e < 65536
+pub plain_detail : (questions : List Question) (e : Refusal) → Plain questions → first_no questions ≡ Some e → detail_of e < 65536
 plain_detail questions e p first = omega (arith, sym (none_in questions p) ∙ ap detail_in first)
 
 -- the refusals of a resolve
-resolve_detail : (v : View) (e : Refusal) → Sound v.table
+pub resolve_detail : (v : View) (e : Refusal) → Sound v.table
     → (first_no (resolve_questions v) ≡ Some e) ⊎ ((first_no (resolve_questions v) ≡ None) × ((i : ℕ) × (e ≡ NoLayout i) × Clash v.table i))
     → detail_of e < 65536
 resolve_detail v e sound (inl first) = plain_detail (resolve_questions v) e (refl, tt) first
 resolve_detail v e sound (inr (first, (i, is, clash))) = rw is (omega (arith, clash.below, sound.few))
 
 -- the refusals of a request
-serves_detail : (v w : View) (request : Request) (made : List Event) (e : Refusal) → Sound v.table → Serves v request made (Err e) w → detail_of e < 65536
+pub serves_detail : (v w : View) (request : Request) (made : List Event) (e : Refusal) → Sound v.table → Serves v request made (Err e) w → detail_of e < 65536
 serves_detail v w (Enlist span) made e sound (Ok n, calls, left, told) = cc told
 serves_detail v w (Enlist span) made e sound (Err f, calls, left, told) =
     let same : e ≡ f = cc told in rw same (plain_detail (enlist_questions v span) f (refl, (refl, (refl, tt))) left.0)
@@ -74,7 +74,7 @@ few_numbers words.Part = omega arith
 few_numbers words.Resolve = omega arith
 few_numbers words.Issue = omega arith
 
-text_detail : (bytes : List ℕ) (f : TextFault) → Reads bytes (Err f) → fault-detail (Text f) < 65536
+pub text_detail : (bytes : List ℕ) (f : TextFault) → Reads bytes (Err f) → fault-detail (Text f) < 65536
 text_detail bytes ShortReply r = omega arith
 text_detail bytes NoEnd r = omega arith
 text_detail bytes UnknownWord r = omega arith

@@ -8,3 +8,5 @@ pub mod Issued
 pub mod Carried
 -- The reply at the start of its buffer.
 pub mod Told
+-- The lines of a sheet, cut at their ends.
+pub mod SheetCuts

@@ -21,4 +21,4 @@ pub use fault::{Fault, TextFault};
 pub use reply::REPLY;
 pub use request::{Request, read_request};
 pub use serve::line;
-pub use sheet::line_end;
+pub use sheet::{SheetLines, line_end};

@@ -3,7 +3,7 @@
 #![tactic(auto)]
 
 use ledgers::WordGrid;
-use lines::{REPLY, line};
+use lines::{REPLY, SheetLines, line};
 use std::io::{Read, Write};
 use survey::Survey;
 
@@ -29,8 +29,7 @@ fn answer_line<W: Write>(
 // Answers the lines of a sheet, one after another.
 fn answer_sheet<W: Write>(sheet: &[u8], out: &mut W) -> anyhow::Result<()> {
     let mut survey = Survey::open(1, WordGrid::new());
-    let lines = sheet.split_inclusive(|byte| *byte == b'\n');
-    for (number, bytes) in (1..=MOST_LINES).zip(lines) {
+    for (number, bytes) in (1..=MOST_LINES).zip(SheetLines::of(sheet)) {
         answer_line(&mut survey, bytes, number, out)?;
     }
     Ok(())
