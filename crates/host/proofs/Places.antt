@@ -42,7 +42,7 @@ some_rows zero k l = absurd (omega arith)
 some_rows (suc n) k l = omega arith
 
 -- no row has a wrong byte
-all_right : (n : ℕ) (square : List ℕ) → ((i : ℕ) → i < n → wrong_in_row n square i ≡ None) → first_wrong n square ≡ None
+pub all_right : (n : ℕ) (square : List ℕ) → ((i : ℕ) → i < n → wrong_in_row n square i ≡ None) → first_wrong n square ≡ None
 all_right n square none =
     none_lowest _ (n * n) (λ k l.
     let some = some_rows n k l in
@@ -50,7 +50,7 @@ all_right n square none =
     ap not (row_right n square (k / n) (k % n) row (mod_below k n some)))
 
 -- row r is the first that has one, and c its first wrong column
-wrong_at : (n : ℕ) (square : List ℕ) (r c : ℕ) → r < n → wrong_column n square r ≡ Some c → ((i : ℕ) → i < r → wrong_in_row n square i ≡ None)
+pub wrong_at : (n : ℕ) (square : List ℕ) (r c : ℕ) → r < n → wrong_column n square r ≡ Some c → ((i : ℕ) → i < r → wrong_in_row n square i ≡ None)
     → first_wrong n square ≡ Some (r * n + c)
 wrong_at n square r c below column above =
     some_lowest _ (n * n) (r * n + c) (mul-add-lt r n c n below before.0)

@@ -1,5 +1,4 @@
 -- The table as rows.
-pub mod Made
 pub mod Loaded
 pub mod Tells
 -- The search on one cluster: the walk, the spread, the test, the starts and their order.
@@ -13,6 +12,7 @@ pub mod Preferred
 pub mod Taking
 pub mod AllSettled
 pub mod Giving
+pub mod Marks
 pub mod Numbered
 pub mod Turns
 pub mod Answer

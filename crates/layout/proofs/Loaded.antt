@@ -1,8 +1,8 @@
 -- Rows that were loaded from a table tell that table.
-use Rattle.std.proofs.Common.{◌≡◌, ℕ, ◌+◌, ◌^◌, ◌<◌, ◌≤◌, Bool, true, false, cond, ◌&&◌, ◌||◌, eqb, ltb, List, length, sym, ap, ◌∙◌, subst, ⊎_elim, arith}
+use Rattle.std.proofs.Common.{◌≡◌, ℕ, zero, suc, ◌+◌, ◌^◌, ◌<◌, ◌≤◌, Bool, true, false, ◌&&◌, ◌||◌, eqb, ltb, List, length, set, replicate, sym, refl, ap, ◌∙◌, subst, ⊎_elim, arith, length-set}
 use mathlib.Core.Path.{fun_ext}
-use Rattle.std.proofs.lemmas.List.{get_or_past}
-use Rattle.std.proofs.lemmas.Bool.{cases_eq, cases_lt, lt-ltb, le-ltb, cond-true, cond-false}
+use Rattle.std.proofs.lemmas.List.{get_or-set_same, get_or-set_other}
+use Rattle.std.proofs.lemmas.Bool.{cases_eq, cases_lt, lt-ltb, le-ltb}
 use Rattle.std.proofs.lemmas.Bool.Decides.{nat_tests}
 use Rattle.bitset.specs.declared.set.BaselineSet.{BaselineSet}
 use Rattle.bitset.specs.Sets.{has}
@@ -55,6 +55,39 @@ all_asked t sound i m l is =
 
 -- ---- all rows
 
+-- the rows below n are those of the table, and the others are empty
+pub record Loaded (t : Table) (rows : List BaselineSet) (n : ℕ) : Type 0 where
+  pub long : length rows ≡ 64
+  pub before : (i : ℕ) → i < n → bits_at rows i ≡ row t i
+  pub after : (i : ℕ) → n ≤ i → bits_at rows i ≡ 0
+
+-- every set of an array of empty sets is empty
+bits_blank : (n i : ℕ) (x : BaselineSet) → x.bits ≡ 0 → bits_at (replicate n x) i ≡ 0
+bits_blank zero i x e = refl
+bits_blank (suc n) zero x e = e
+bits_blank (suc n) (suc i) x e = bits_blank n i x e
+
+-- none is loaded
+pub loaded_none : (t : Table) (x : BaselineSet) → x.bits ≡ 0 → Loaded t (replicate 64 x) 0
+loaded_none t x e = record { long = refl; before = λ i l. absurd (omega arith); after = λ i _. bits_blank 64 i x e }
+
+-- one row more
+pub loaded_more : (t : Table) (rows : List BaselineSet) (n : ℕ) (x : BaselineSet) → n < 64 → x.bits ≡ row t n → Loaded t rows n
+    → Loaded t (set rows n x) (n + 1)
+loaded_more t rows n x l e was = record {
+  long = simp length-set was.long;
+  before = λ i h. ⊎_elim (here i) (λ ne. there i ne ∙ was.before i (omega arith)) (cases_eq i n);
+  after = λ i h. there i (λ e. omega arith) ∙ was.after i (omega arith);
+}
+  where
+    here : (i : ℕ) → i ≡ n → bits_at (set rows n x) i ≡ row t i
+    here i h =
+        let long = was.long in
+        ap (bits_at (set rows n x)) h ∙ ap (λ (s : BaselineSet). s.bits) (get_or-set_same rows n x none (omega arith)) ∙ e ∙ ap (row t) (sym h)
+
+    there : (i : ℕ) → (i ≡ n → ⊥) → bits_at (set rows n x) i ≡ bits_at rows i
+    there i ne = ap (λ (s : BaselineSet). s.bits) (get_or-set_other rows n i x none ne)
+
 -- what rows keep, in the order of their ghost fields
 abbrev pub Kept : ℕ → List BaselineSet → Type 0
 Kept n rows = record {
@@ -63,26 +96,14 @@ Kept n rows = record {
   sound : Sound (table_of n rows);
 }
 
-module _ (t : Table) (sound : Sound t) (n : ℕ) (rows : List BaselineSet) (e : n ≡ t.count) (long : length rows ≡ 64)
-    (loaded : (i : ℕ) → i < 64 → bits_at rows i ≡ cond (ltb i n) (row t i) 0) where
-  -- the row of a number from the count on is empty
-  row_past : (i : ℕ) → n ≤ i → row t i ≡ 0
-  row_past i h = empty_set 64 _ (row_lt t i) (λ j _. row_has t sound i j ∙ sound.within i j (omega arith))
-
+module _ (t : Table) (sound : Sound t) (n : ℕ) (rows : List BaselineSet) (e : n ≡ t.count) (k : ℕ) (reached : n ≤ k) (loaded : Loaded t rows k) where
   -- each row is that of the table
   row_is : (i : ℕ) → bits_at rows i ≡ row t i
-  row_is i = ⊎_elim inside outside (cases_lt i 64)
-    where
-      inside : i < 64 → bits_at rows i ≡ row t i
-      inside l = loaded i l ∙ ⊎_elim
-          (λ h. cond-true _ _ _ (lt-ltb i n h))
-          (λ h. cond-false _ _ _ (le-ltb i n h) ∙ sym (row_past i h))
-          (cases_lt i n)
-
-      outside : 64 ≤ i → bits_at rows i ≡ row t i
-      outside h =
-          let few = sound.few in
-          ap (λ (s : BaselineSet). s.bits) (get_or_past rows i none (omega arith)) ∙ sym (row_past i (omega arith))
+  row_is i =
+      ⊎_elim
+      (loaded.before i)
+      (λ h. loaded.after i h ∙ sym (empty_set 64 _ (row_lt t i) (λ j _. row_has t sound i j ∙ sound.within i j (omega arith))))
+      (cases_lt i k)
 
   -- so the rows tell the table
   pub loaded_told : table_of n rows ≡ t
@@ -93,4 +114,4 @@ module _ (t : Table) (sound : Sound t) (n : ℕ) (rows : List BaselineSet) (e : 
 
   -- and keep what rows keep
   pub loaded_kept : Kept n rows
-  loaded_kept = record { long = long; small = λ i. rw (row_is i) (row_lt t i); sound = subst Sound (sym loaded_told) sound }
+  loaded_kept = record { long = loaded.long; small = λ i. rw (row_is i) (row_lt t i); sound = subst Sound (sym loaded_told) sound }

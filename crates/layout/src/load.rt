@@ -7,7 +7,6 @@ ghost use Rattle.layout.specs.Told.{told};
 use super::rows::Rows;
 use bitset::BaselineSet;
 use evidence::Evidence;
-use std::array;
 
 // The baselines that share with i.
 fn load_row<E: Evidence>(evidence: &E, i: usize) -> BaselineSet
@@ -27,12 +26,9 @@ pub fn load<E: Evidence>(evidence: &E) -> Rows
     ensures { told result ≡ E.Evidence.meaning evidence.now }
 {
     let count = evidence.count();
-    let rows = array::from_fn(|i| {
-        if i < count {
-            load_row(evidence, i)
-        } else {
-            BaselineSet::empty()
-        }
-    });
+    let mut rows = [BaselineSet::empty(); 64];
+    for i in 0..count {
+        rows[i] = load_row(evidence, i);
+    }
     Rows { count, rows }
 }

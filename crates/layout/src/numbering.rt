@@ -12,8 +12,7 @@ ghost use Rattle.layout.specs.Told.{told};
 use super::near::NearStars;
 use super::numbers::Numbers;
 use bitset::BaselineSet;
-use std::array;
-use theory::Entry;
+use theory::{Entry, Record};
 
 // The second lowest baseline of a star, or 64 where there is none.
 fn second(a: BaselineSet) -> usize
@@ -68,10 +67,11 @@ fn doubts(count: usize, doubtful: BaselineSet) -> [Entry; 64]
     ensures long { length result ≡ 64 }
     ensures told { (w : ℕ) → slice_index_or result w blank ≡ unnumbered (nat_lt w count && has doubtful.bits w) }
 {
-    array::from_fn(|v| Entry {
-        doubtful: v < count && doubtful.has(v),
-        ..Entry::default()
-    })
+    let mut entries = Record::new().entries;
+    for v in 0..count {
+        entries[v].doubtful = doubtful.has(v);
+    }
+    entries
 }
 
 // Numbers all imagers: the stars that begin at a lower baseline first, and of two that begin at one baseline the one

@@ -20,6 +20,7 @@ fn attempt<'a>(walk: &Walk<'a>, cross: Option<usize>, near: &mut NearStars<'a>) 
     ensures rows { near.new.rows.now ≡ near.old.rows.now }
     ensures passes { result ≡ passes (told walk.now.rows.now) walk.now.root cross }
     ensures stars { result ≡ true → Begins (told walk.now.rows.now) walk.now.root cross (bits_at near.new.near) }
+    ensures kept { KeptOutside (told walk.now.rows.now) walk.now.root near.old.near near.new.near }
 {
     let first = walk.first_star(cross);
     if !walk.can_pass(cross, first) {
@@ -36,6 +37,7 @@ fn find<'a>(walk: &Walk<'a>, starts: &mut Starts, near: &mut NearStars<'a>) -> b
     ensures rows { near.new.rows.now ≡ near.old.rows.now }
     ensures starts { All (Start (told walk.now.rows.now) walk.now.root) (starts_left starts.new) }
     ensures found { Found (told walk.now.rows.now) walk.now.root starts.old starts.new (bits_at near.new.near) result }
+    ensures kept { KeptOutside (told walk.now.rows.now) walk.now.root near.old.near near.new.near }
 {
     while let Some(cross) = starts.next() {
         if attempt(walk, cross, near) {

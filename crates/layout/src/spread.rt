@@ -3,6 +3,7 @@
 ghost use Rattle.std.specs.Prelude.{◌≡◌, ℕ};
 ghost use Rattle.theory.specs.Clusters.{Reach};
 ghost use Rattle.theory.specs.Search.{Handed};
+ghost use Rattle.layout.specs.Near.{KeptOutside};
 ghost use Rattle.layout.specs.Tables.{bits_at};
 ghost use Rattle.layout.specs.Told.{told};
 
@@ -16,8 +17,8 @@ impl<'a> NearStars<'a> {
     pub fn spread(&mut self, walk: &Walk<'a>, first: BaselineSet)
         ensures rows { self.new.rows.now ≡ self.old.rows.now }
         ensures handed { (v : ℕ) → Reach (told walk.now.rows.now) walk.now.root v → Handed (told walk.now.rows.now) walk.now.root first.bits (bits_at self.new.near) v }
+        ensures kept { KeptOutside (told walk.now.rows.now) walk.now.root self.old.near self.new.near }
     {
-        self.near = [BaselineSet::empty(); 64];
         self.near[walk.root] = first;
         for &(from, to) in walk.steps.as_slice() {
             let near = self.near[from];

@@ -29,4 +29,5 @@ returns c =
       passes = same_from_decides c.verify.result (passes t w.root c.args.cross) c.verify.ensures
           (passes_tells t w.rows.now.sound w.root w.walked.below c.args.cross near handed);
       stars = λ h. record { stars = c.verify.ensures.0 h; first = near_first t w.rows.now.sound w.root w.walked.below c.args.cross near handed };
+      kept = c.spread.ensures.kept;
     }

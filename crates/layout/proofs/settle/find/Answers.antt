@@ -27,6 +27,7 @@ returns-then-attempt c =
         was.2 ∙ ap (filter (passes t r)) steps ∙ cond-true _ _ _ (sym c.attempt.ensures.passes ∙ c.if-attempt.true),
         c.attempt.ensures.stars c.if-attempt.true,
       );
+      kept = λ v out. c.attempt.ensures.kept v out ∙ was.3 v out;
     }
 
 pub loop-cross-preserved : goal.loop-cross-preserved
@@ -38,6 +39,7 @@ loop-cross-preserved c =
       c.attempt.ensures.rows ∙ was.0,
       All-tail (Start t r) c.in-Some.cross _ (subst (All (Start t r)) steps was.1),
       was.2 ∙ ap (filter (passes t r)) steps ∙ cond-false _ _ _ (sym c.attempt.ensures.passes ∙ c.if-attempt.false),
+      λ v out. c.attempt.ensures.kept v out ∙ was.3 v out,
     )
 
 pub loop-cross-smaller : goal.loop-cross-smaller
@@ -53,4 +55,5 @@ returns c =
       rows = was.0;
       starts = subst (All (Start t r)) (none.0 ∙ sym none.1) was.1;
       found = was.2 ∙ ap (filter (passes t r)) none.0;
+      kept = was.3;
     }

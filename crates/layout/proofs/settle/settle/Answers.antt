@@ -19,8 +19,8 @@ returns-then-not-find c = record {
   kept = λ v out. refl;
 }
 
-pub returns : goal.returns
-returns c =
+pub returns-clause-settled : goal.returns-clause-settled
+returns-clause-settled c =
     let w = c.args.walk.now in
     let t = told w.rows.now in
     let r = w.root in
@@ -35,9 +35,11 @@ returns c =
       begins = found.2.first;
       doubt = found_some t r c.find.new.starts c.find-2.new.starts (bits_at c.find-2.new.near.near) c.find-2.result c.find-2.ensures.found;
     } in
-    record {
-      rows = c.take_over.ensures.rows;
-      settled = settled_alike t r tried (bits_at c.take_over.new.self.near)
-          (λ v reach. c.take_over.ensures.near v ∙ cond-true _ _ _ ((reaches v).1 reach)) settled;
-      kept = λ v out. c.take_over.ensures.near v ∙ cond-false _ _ _ (false_from_ne_true _ (λ h. out ((reaches v).0 h)));
-    }
+    settled_alike t r tried (bits_at c.take_over.new.self.near)
+    (λ v reach. c.take_over.ensures.near v ∙ cond-true _ _ _ ((reaches v).1 reach)) settled
+
+pub returns-clause-kept : goal.returns-clause-kept
+returns-clause-kept c v out =
+    let w = c.args.walk.now in
+    let reaches = walked_reach (told w.rows.now) w.rows.now.sound w.root w.met.bits w.steps.items w.walked in
+    c.take_over.ensures.near v ∙ cond-false _ _ _ (false_from_ne_true _ (λ h. out ((reaches v).0 h)))

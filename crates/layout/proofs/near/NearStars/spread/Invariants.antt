@@ -5,4 +5,4 @@ use Rattle.layout.proofs.near.NearStars.spread.Given as goal
 
 abbrev pub invariant-loop-from : goal.invariant-loop-from
 invariant-loop-from l =
-    (l.self.rows ≡ l.initial.self.rows) × Spreading (told l.walk.rows.now) l.walk.root l.fn.first.bits l.from-items l.self.near l.from-index
+    (l.self.rows ≡ l.initial.self.rows) × Spreading (told l.walk.rows.now) l.from-items l.initial.self.near l.self.near l.from-index
