@@ -4,7 +4,6 @@ use super::ends::{Ends, has_trio, in_common};
 use super::told::{Told, ends_of};
 use bitset::BaselineSet;
 use evidence::{Evidence, Refusal};
-use itertools::Itertools;
 use std::alloc::{AllocError, Global};
 use std::collections::BTreeSet;
 
@@ -16,9 +15,12 @@ type Grouping = Vec<bool>;
 
 fn grouping_of(alloc: Global, ends: &[Ends]) -> Result<Grouping, AllocError> {
     let mut grouping = Vec::new(alloc);
-    for three in ends.iter().copied().tuple_combinations(alloc)? {
-        let (d, e, f) = three?;
-        grouping.push(has_trio(d, e, f))?;
+    for (i, d) in ends.iter().enumerate() {
+        for (j, e) in ends.iter().enumerate().skip(i + 1) {
+            for f in &ends[j + 1..] {
+                grouping.push(has_trio(*d, *e, *f))?;
+            }
+        }
     }
     Ok(grouping)
 }
@@ -60,16 +62,19 @@ impl<E: Evidence> Search<'_, E> {
         let Some((baseline, left)) = left.split_first() else {
             return self.note();
         };
-        for own in (0..used.saturating_add(2)).tuple_combinations(self.alloc)? {
-            let own: Ends = own?;
+        for low in 0..=used {
+            let next = low.saturating_add(1);
             // of the two that are new the second comes only beside the first
-            if (own.1 <= used || own.0 == used) && self.fits(*baseline, own) {
-                self.laid.push(Laid {
-                    baseline: *baseline,
-                    ends: own,
-                })?;
-                self.extend(left, used.max(own.1.saturating_add(1)))?;
-                self.laid.pop();
+            for high in next..=used.max(next) {
+                let own = (low, high);
+                if self.fits(*baseline, own) {
+                    self.laid.push(Laid {
+                        baseline: *baseline,
+                        ends: own,
+                    })?;
+                    self.extend(left, used.max(high.saturating_add(1)))?;
+                    self.laid.pop();
+                }
             }
         }
         Ok(())

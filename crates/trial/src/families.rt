@@ -19,13 +19,16 @@ fn groups_as_drawn(alloc: Global, drawing: &[Ends], told: &Told) -> Result<bool,
         .filter(|(_, entry)| !entry.doubtful)
         .map(|(drawn, entry)| (*drawn, ends_of(entry)))
         .collect(alloc)?;
-    for three in certain.iter().copied().tuple_combinations(alloc)? {
-        let (d, e, f) = three?;
-        if has_trio(d.0, e.0, f.0) != has_trio(d.1, e.1, f.1) {
-            return Ok(false);
-        }
-    }
-    Ok(true)
+    let certain = certain.as_slice();
+    Ok(
+        certain.iter().enumerate().all(|(k, f)| {
+            certain[..k].iter().enumerate().all(|(j, e)| {
+                certain[..j]
+                    .iter()
+                    .all(|d| has_trio(d.0, e.0, f.0) == has_trio(d.1, e.1, f.1))
+            })
+        }),
+    )
 }
 
 // Whether a proper drawing is placed as it was drawn.

@@ -46,11 +46,9 @@ fn run_families(rt: &HostRuntime) -> anyhow::Result<()> {
 }
 
 fn run(rt: &HostRuntime) -> anyhow::Result<()> {
-    let mut bytes = Vec::new(rt.alloc());
-    rt.stdin().read_to_end(&mut bytes)?;
-    // a line that is no text is no two numbers either
-    let text = String::from_utf8_lossy(rt.alloc(), bytes.as_slice())?;
-    let drawing = reading::drawing_of(rt, text.as_str())?;
+    let mut text = Vec::new(rt.alloc());
+    rt.stdin().read_to_end(&mut text)?;
+    let drawing = reading::drawing_of(rt, text.as_slice())?;
     rig::print_rig(rt, drawing.as_slice())?;
     run_families(rt)
 }

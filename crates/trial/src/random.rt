@@ -43,8 +43,11 @@ pub fn draw(
     let mut drawing = Vec::new(alloc);
     for _turn in 0..1000 {
         let (a, b) = (random.below(imagers), random.below(imagers));
-        let drawn = drawing.contains(&(a, b)) || drawing.contains(&(b, a));
-        if drawing.len() < wanted && a != b && !drawn {
+        if drawing.len() < wanted
+            && a != b
+            && !drawing.contains(&(a, b))
+            && !drawing.contains(&(b, a))
+        {
             drawing.push((a, b))?;
         }
     }

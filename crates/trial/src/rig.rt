@@ -51,10 +51,12 @@ fn print_entries(rt: &HostRuntime, entries: &[Entry]) -> anyhow::Result<()> {
 
 /// Prints a drawing's table, and its layout or why there is none.
 pub fn print_rig(rt: &HostRuntime, drawing: &[Ends]) -> anyhow::Result<()> {
-    if drawing.len() > 64 {
+    // a drawing reads no more than 64 baselines
+    let read = &drawing[..drawing.len().min(64)];
+    if read.len() < drawing.len() {
         rt.println("baselines past the 64th are not read")?;
     }
-    let bytes = bytes_of(rt.alloc(), drawing)?;
+    let bytes = bytes_of(rt.alloc(), read)?;
     let rig = Drawing {
         bytes: bytes.as_slice(),
     };
