@@ -1,11 +1,11 @@
 -- The laws of the sets of specs/Sets.antt, told by their members.
 use Rattle.std.proofs.Common.{◌≡◌, ℕ, zero, suc, ◌+◌, ◌-◌, ◌*◌, ◌/◌, ◌%◌, ◌^◌, ◌<◌, ◌≤◌, min, max, Bool, true, false, cond, not, ◌&&◌, ◌||◌, eqb, ltb, w64, sym, refl, ap, ◌∙◌, ap₂, ⊎_elim, arith}
 use lib.Arith.{digits_div, digits_mod}
-use lib.Bits.{bit_and, bit_or, and_lt}
+use lib.Bits.{bit_and, bit_or, bit_xor, and_lt}
 use lib.Count.{count_leading_zeros, leading_top}
 use Rattle.std.specs.Int.{bit_at}
 use Rattle.std.proofs.lemmas.Nat.{pow_pos, pow_below, and_le_l, xor_lt}
-use Rattle.std.proofs.lemmas.Nat.Bits.{shr_and_one, bit_at_lowest, bit_at-suc, bit_at-zero, bit_at-lt, bit_at_and, bit_at_or, bit_at_xor, bit_at_not, bit_at-pow_same, bit_at-pow_other, bit_at_above, bit_at-trailing_zeros, same_from_bits_below}
+use Rattle.std.proofs.lemmas.Nat.Bits.{shr_and_one, bit_at_lowest, bit_at-suc, bit_at-zero, bit_at-lt, bit_at_and, bit_at_or, bit_at_xor, bit_at-pow_same, bit_at-pow_other, bit_at_above, bit_at-trailing_zeros, same_from_bits_below}
 use Rattle.std.proofs.lemmas.Bool.{both_ways, cases_eq, cases_lt, cases_order, false_from_ne_true, lt-ltb, le-ltb, eq-eqb, ne_eqb, cond_both}
 use Rattle.std.proofs.lemmas.Bool.Decides.{nat_tests}
 use Rattle.bitset.specs.Sets.{has, minus, put, drop, lowest, set_of, Lowest, Highest}
@@ -39,20 +39,25 @@ has_or a b i = has_bit _ i ∙ ap (λ x. eqb x 1) (bit_at_or a b i ∙ ap₂ max
     bool false true = refl
     bool false false = refl
 
--- what is in the first of two sets and not in the second
-pub has_minus : (a b i : ℕ) → has (minus a b) i ≡ (has a i && not (has b i))
-unfolding minus
-has_minus a b i =
-    has_bit _ i
-    ∙ ap (λ x. eqb x 1)
-    (bit_at_xor a (bit_and a b) i ∙ ap₂ (λ x y. (x + y) % 2) (bit_has a i) (bit_at_and a b i ∙ ap₂ min (bit_has a i) (bit_has b i)))
-    ∙ bool (has a i) (has b i)
+-- what is in just one of two sets
+pub has_xor : (a b i : ℕ) → has (bit_xor a b) i ≡ cond (has b i) (not (has a i)) (has a i)
+has_xor a b i = has_bit _ i ∙ ap (λ x. eqb x 1) (bit_at_xor a b i ∙ ap₂ (λ x y. (x + y) % 2) (bit_has a i) (bit_has b i)) ∙ bool (has a i) (has b i)
   where
-    bool : (x y : Bool) → eqb ((cond x 1 0 + min (cond x 1 0) (cond y 1 0)) % 2) 1 ≡ (x && not y)
+    bool : (x y : Bool) → eqb ((cond x 1 0 + cond y 1 0) % 2) 1 ≡ cond y (not x) x
     bool true true = refl
     bool true false = refl
     bool false true = refl
     bool false false = refl
+
+-- what is in the first of two sets and not in the second
+pub has_minus : (a b i : ℕ) → has (minus a b) i ≡ (has a i && not (has b i))
+unfolding minus
+has_minus a b i = has_xor a (bit_and a b) i ∙ ap (λ x. cond x (not (has a i)) (has a i)) (has_and a b i) ∙ bool (has a i) (has b i)
+  where
+    bool : (x y : Bool) → cond (x && y) (not x) x ≡ (x && not y)
+    bool true true = refl
+    bool true false = refl
+    bool false y = refl
 
 -- 0 has no member
 pub has_none : (i : ℕ) → has 0 i ≡ false
@@ -76,12 +81,12 @@ pub same_set : (k a b : ℕ) → a < 2 ^ k → b < 2 ^ k → ((i : ℕ) → i < 
 same_set k a b h h' e = same_from_bits_below k a b h h' (λ i l. bit_has a i ∙ ap (λ b. cond b 1 0) (e i l) ∙ sym (bit_has b i))
 
 -- a number that is put together from a low bit and a rest has that low bit
-has_low : (q r : ℕ) → r < 2 → has (q * 2 + r) 0 ≡ eqb r 1
+pub has_low : (q r : ℕ) → r < 2 → has (q * 2 + r) 0 ≡ eqb r 1
 unfolding has
 has_low q r h = ap (λ x. eqb x 1) (digits_mod q h)
 
 -- and above it the members of the rest, one higher
-has_high : (q r i : ℕ) → r < 2 → has (q * 2 + r) (suc i) ≡ has q i
+pub has_high : (q r i : ℕ) → r < 2 → has (q * 2 + r) (suc i) ≡ has q i
 unfolding has
 has_high q r i h = ap (λ x. has x i) (digits_div q h)
 
@@ -111,13 +116,18 @@ set_of_lt p (suc n) = omega (arith, set_of_lt (λ i. p (suc i)) n, cond_lt (p 0)
 pub has_shift : (m i : ℕ) → has m i ≡ eqb (bit_and (m / 2 ^ i) 1) 1
 has_shift m i = has_bit m i ∙ ap (λ x. eqb x 1) (sym (shr_and_one m i))
 
--- the complement, as `!b` computes it, has what the set has not
-has_not : (b i : ℕ) → b < 2 ^ 64 → i < 64 → has (2 ^ 64 - 1 - b) i ≡ not (has b i)
-has_not b i h l = has_bit _ i ∙ ap (λ x. eqb x 1) (bit_at_not w64 b i h l ∙ ap (λ x. 1 - x) (bit_has b i)) ∙ bool (has b i)
-  where
-    bool : (x : Bool) → eqb (1 - cond x 1 0) 1 ≡ not x
-    bool true = refl
-    bool false = refl
+-- the low bit and the rest of the complement
+not_digits : (k b : ℕ) → b < 2 ^ suc k → 2 ^ suc k - 1 - b ≡ (2 ^ k - 1 - b / 2) * 2 + (1 - b % 2)
+not_digits k b h = omega (arith, pow_pos k)
+
+-- the complement, as `!b` computes it at k bits, has what the set has not
+pub has_not : (k b i : ℕ) → b < 2 ^ k → i < k → has (2 ^ k - 1 - b) i ≡ not (has b i)
+unfolding has
+has_not zero b i h l = absurd (omega arith)
+has_not (suc k) b zero h l =
+    ap (λ x. has x 0) (not_digits k b h) ∙ has_low _ (1 - b % 2) (omega arith) ∙ grind (arith, nat_tests)
+has_not (suc k) b (suc i) h l =
+    ap (λ x. has x (suc i)) (not_digits k b h) ∙ has_high _ (1 - b % 2) i (omega arith) ∙ has_not k (b / 2) i (omega arith) (omega arith)
 
 -- a set with no member is 0
 pub empty_set : (k m : ℕ) → m < 2 ^ k → ((i : ℕ) → i < k → has m i ≡ false) → m ≡ 0
@@ -126,6 +136,10 @@ empty_set k m h e = same_set k m 0 h (omega (arith, pow_pos k)) (λ i l. e i l �
 -- a set with a member is not 0
 pub not_empty : (m i : ℕ) → has m i ≡ true → m ≡ 0 → ⊥
 not_empty m i h z = both_ways _ (ap (λ x. has x i) z ∙ has_none i) h
+
+-- a test that cannot pass fails
+pub unless : (b : Bool) → (b ≡ true → ⊥) → b ≡ false
+unless = false_from_ne_true
 
 -- a number from k on is no member of a set below 2 ^ k
 pub has_past : (k m i : ℕ) → m < 2 ^ k → k ≤ i → has m i ≡ false
@@ -152,7 +166,7 @@ single_lt k i h = pow_below i k h
 pub minus_not : (a b : ℕ) → a < 2 ^ 64 → b < 2 ^ 64 → bit_and a (2 ^ 64 - 1 - b) ≡ minus a b
 minus_not a b h k =
     same_set 64 _ _ (and_lt 64 a (2 ^ 64 - 1 - b) h (omega arith)) (minus_lt 64 a b h)
-    (λ i l. has_and a (2 ^ 64 - 1 - b) i ∙ ap (λ x. has a i && x) (has_not b i k l) ∙ sym (has_minus a b i))
+    (λ i l. has_and a (2 ^ 64 - 1 - b) i ∙ ap (λ x. has a i && x) (has_not 64 b i k l) ∙ sym (has_minus a b i))
 
 -- the lowest member of a set that is not empty
 pub lowest_is : (m : ℕ) → (m ≡ 0 → ⊥) → m < 2 ^ 64 → Lowest m (lowest m)

@@ -1,5 +1,5 @@
 -- Entries with exactly one number in common, and the line graph of a proper drawing.
-use Rattle.std.proofs.Common.{◌≡◌, ℕ, ◌<◌, true, false, not, ◌||◌, eqb, ◌↔◌, List, sym, refl, ap, ◌∙◌, inl, inr, ⊎_elim, arith}
+use Rattle.std.proofs.Common.{◌≡◌, ℕ, Bool, ◌<◌, true, false, not, ◌||◌, eqb, ◌↔◌, List, sym, refl, ap, ◌∙◌, inl, inr, ⊎_elim, arith}
 use Rattle.std.proofs.lemmas.Bool.Decides.{nat_tests}
 use Rattle.std.proofs.lemmas.Bool.{cases_order, and_parts, and_from, or_cases, eqb-true, eqb-false, ne_eqb, lt-ltb, not-true, cases_Bool}
 use Rattle.evidence.specs.Drawing.{Entry, entries, entry, some_common, same_two, one_common, ExactlyOne, drawn, New, Proper}
@@ -91,6 +91,10 @@ one_tells d e = (exact, tested)
     tested x =
         and_from _ _ (touch_some d e (x.0, x.1, x.2))
         (ap not (⊎_elim (λ h. absurd (not_two x h)) (λ h. h) (cases_Bool (same_two d e))))
+
+-- and so does what answers the same
+pub one_told : (d e : Entry) (b : Bool) → b ≡ one_common d e → (b ≡ true) ↔ ExactlyOne d e
+one_told d e b is = ((λ h. (one_tells d e).0 (sym is ∙ h)), (λ x. is ∙ (one_tells d e).1 x))
 
 -- the table of a proper drawing is the line graph of its entries
 pub line_graph : (bytes : List ℕ) → Proper bytes → LineGraph (entries bytes) (entry bytes) (drawn bytes)

@@ -2,7 +2,8 @@
 use Rattle.std.specs.Prelude.{◌≡◌, ℕ, ◌+◌, ◌*◌, ◌/◌, ◌<◌, min, Bool, true, false, not, ◌&&◌, ◌||◌, ◌≢◌, List, length, ◌==◌, slice_index, refl}
 use Rattle.std.proofs.Common.{arith}
 use Rattle.std.proofs.Math.Bool.{and_comm}
-use Rattle.evidence.specs.Table.{Table, Sound, of_pairs, eqb_comm, pairs_sound}
+use Rattle.evidence.specs.Table.{Table, Sound, of_pairs, pairs_sound}
+pub use Rattle.evidence.specs.Table.{eqb_comm}
 use Rattle.evidence.specs.LineGraph.{On}
 
 -- The two imager numbers of a baseline, as they are drawn.

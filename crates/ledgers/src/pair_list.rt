@@ -68,8 +68,10 @@ impl Ledger for PairList {
         self.entries.capacity() as u16
     }
 
+    #[tactic(auto, using(crate::proofs::Listed::kept_none))]
     fn clear(&mut self) {
-        *self = PairList::new();
+        self.entries.clear();
+        self.baselines = Count { count: 0 };
     }
 
     fn grow(&mut self) -> Result<usize, Refusal> {

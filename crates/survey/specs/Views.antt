@@ -3,6 +3,8 @@ use Rattle.std.specs.Prelude.{◌≡◌, ℕ, Bool, true, false, List, [], Some,
 use Rattle.evidence.specs.Table.{Table}
 use Rattle.evidence.specs.declared.evidence.Evidence.{Ghosts as EvidenceGhosts}
 use Rattle.evidence.specs.declared.ledger.Ledger.{Ghosts as LedgerGhosts}
+use Rattle.survey.specs.declared.stage.Stage.{Stage}
+use Rattle.survey.specs.declared.stage.Stage.TheVariants as stage
 use Rattle.survey.specs.declared.state.Layout.{Layout}
 use Rattle.survey.specs.declared.state.State.{State}
 use Rattle.survey.specs.declared.state.State.TheVariants.{Unresolved, Resolved, Begun, Profiled}
@@ -47,6 +49,13 @@ has_layout s = is_some (layout_of s)
 -- The survey keeps a layout, and it is such.
 abbrev pub Keeps : View → (Layout → Type 0) → Type 0
 Keeps v says = IsSomeAnd (layout_of v.state) says
+
+-- How far the open issue has come.
+abbrev pub stage_of : State → Stage
+stage_of Unresolved = stage.Idle
+stage_of (Resolved l) = stage.Idle
+stage_of (Begun l) = stage.Begun
+stage_of (Profiled l) = stage.Profiled
 
 -- No issue is open.
 abbrev pub idle : State → Bool

@@ -1,7 +1,7 @@
 //! What a resolved survey tells of its baselines.
 
 ghost use Rattle.std.specs.Prelude.{◌≡◌};
-ghost use Rattle.survey.specs.Told.{EntryTold, together};
+ghost use Rattle.survey.specs.Told.{EntryTold, RecordTold, together};
 ghost use Rattle.survey.specs.History.{AskEnds, AskCommon, AskDoubt};
 ghost use Rattle.survey.specs.Runs.{Leads};
 ghost use Rattle.survey.specs.Views.{view};
@@ -9,7 +9,7 @@ ghost use Rattle.survey.specs.Views.{view};
 use super::state::State;
 use super::survey::Survey;
 use evidence::{Ledger, Refusal, ask_pair};
-use theory::Entry;
+use theory::{Entry, Record};
 
 impl<L: Ledger> Survey<L> {
     /// The two imagers of a baseline, the lower first. Refused with 12 where the number is not below the count, else with 15
@@ -27,7 +27,8 @@ impl<L: Ledger> Survey<L> {
         ensures { Leads L.Evidence L.Ledger.own self.now (AskCommon i j result) self.now }
     {
         ask_pair(self.ledger.count(), i, j)?;
-        Ok(together(self.entry_of(i)?, self.entry_of(j)?))
+        let record = self.record()?;
+        Ok(together(record.entries[i], record.entries[j]))
     }
 
     /// Whether a baseline is doubtful. Refused with 12 where the number is not below the count, else with 15 where the survey
@@ -45,10 +46,17 @@ impl<L: Ledger> Survey<L> {
         if i >= self.ledger.count() {
             return Err(Refusal::PastCount);
         }
+        Ok(self.record()?.entries[i])
+    }
+
+    // The record that is kept of the baselines.
+    fn record(&self) -> Result<&Record, Refusal>
+        ensures { RecordTold (view L.Evidence L.Ledger.own self.now) result }
+    {
         match &self.state {
             State::Unresolved => Err(Refusal::Unresolved),
             State::Resolved(layout) | State::Begun(layout) | State::Profiled(layout) => {
-                Ok(layout.record.entries[i])
+                Ok(&layout.record)
             }
         }
     }

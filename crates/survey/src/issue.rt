@@ -1,6 +1,7 @@
 //! Issues: begun, written out and ended.
 
 ghost use Rattle.std.specs.Prelude.{◌≡◌, ◌+◌, ◌≤◌, cond, length, OnOk};
+ghost use Rattle.std.specs.Option.{option_map};
 ghost use Rattle.files.specs.Contents.{profile_of, table_of};
 ghost use Rattle.survey.specs.Issues.{profile_by, table_by, profile_text, table_text};
 ghost use Rattle.survey.specs.Papers.{admits, is_latest};
@@ -49,13 +50,13 @@ impl<L: Ledger> Survey<L> {
     ) -> Result<(Closing, usize), (Opening, Refusal)>
         ensures { Leads L.Evidence L.Ledger.own self.old (WriteProfile paper place buffer.old buffer.new result) self.new }
     {
-        let layout = match self.state {
+        let layout = match &self.state {
             State::Begun(layout) if self.is_latest(&paper) => layout,
             _ => return Err((paper, Refusal::WrongPaper)),
         };
-        match write_profile(&self.contents(&layout), buffer, place) {
+        match write_profile(&self.contents(layout), buffer, place) {
             Ok(bytes) => {
-                self.state = State::Profiled(layout);
+                self.state = State::Profiled(*layout);
                 Ok((paper.exchange(), bytes))
             }
             Err(refusal) => Err((paper, refusal)),
@@ -73,14 +74,14 @@ impl<L: Ledger> Survey<L> {
     ) -> Result<usize, (Closing, Refusal)>
         ensures { Leads L.Evidence L.Ledger.own self.old (WriteTable paper place buffer.old buffer.new result) self.new }
     {
-        let layout = match self.state {
+        let layout = match &self.state {
             State::Profiled(layout) if self.is_latest(&paper) => layout,
             _ => return Err((paper, Refusal::WrongPaper)),
         };
-        match write_table(&self.contents(&layout), buffer, place) {
+        match write_table(&self.contents(layout), buffer, place) {
             Ok(bytes) => {
                 paper.spend();
-                self.state = State::Resolved(layout);
+                self.state = State::Resolved(*layout);
                 Ok(bytes)
             }
             Err(refusal) => Err((paper, refusal)),
@@ -96,17 +97,17 @@ impl<L: Ledger> Survey<L> {
             return Err((paper, Refusal::WrongPaper));
         };
         paper.spend();
-        self.state = State::Resolved(layout);
+        self.state = State::Resolved(*layout);
         Ok(())
     }
 
     // The layout of the open issue, if this paper is that of the issue at its stage.
-    fn admitted(&self, paper: &Paper) -> Option<Layout>
-        ensures { result ≡ cond (admits (view L.Evidence L.Ledger.own self.now) paper.now) (layout_of self.now.state) None }
+    fn admitted(&self, paper: &Paper) -> Option<&Layout>
+        ensures { option_map (λ l. l.now) result ≡ cond (admits (view L.Evidence L.Ledger.own self.now) paper.now) (layout_of self.now.state) None }
     {
         match (paper, &self.state) {
-            (Paper::Opens(slip), State::Begun(layout)) if self.is_latest(slip) => Some(*layout),
-            (Paper::Closes(slip), State::Profiled(layout)) if self.is_latest(slip) => Some(*layout),
+            (Paper::Opens(slip), State::Begun(layout)) if self.is_latest(slip) => Some(layout),
+            (Paper::Closes(slip), State::Profiled(layout)) if self.is_latest(slip) => Some(layout),
             _ => None,
         }
     }

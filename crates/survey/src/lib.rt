@@ -11,10 +11,12 @@ mod asked;
 mod issue;
 mod marks;
 mod resolve;
+mod stage;
 mod start;
 mod state;
 mod survey;
 
 pub use papers::Paper;
 pub use slip::{Closing, ForProfile, ForTable, Opening, Slip};
+pub use stage::Stage;
 pub use survey::{Resolution, Survey};

@@ -6,6 +6,7 @@ ghost use Rattle.evidence.specs.Refusals.{Asked};
 ghost use Rattle.survey.specs.Law.{Lawful};
 ghost use Rattle.survey.specs.Views.{view, idle, Fresh};
 
+use super::stage::Stage;
 use super::state::State;
 use super::survey::Survey;
 use arrayvec::ArrayVec;
@@ -33,9 +34,9 @@ impl<L: Ledger> Survey<L> {
         ensures asked { Asked ((idle self.now.state, IssueOpen) ∷ []) result }
         ensures idle { OnOk result (idle self.now.state ≡ true) }
     {
-        match self.state {
-            State::Unresolved | State::Resolved(_) => Ok(()),
-            State::Begun(_) | State::Profiled(_) => Err(Refusal::IssueOpen),
+        match self.state.stage() {
+            Stage::Idle => Ok(()),
+            Stage::Begun | Stage::Profiled => Err(Refusal::IssueOpen),
         }
     }
 }
